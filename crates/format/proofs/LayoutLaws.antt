@@ -1,0 +1,35 @@
+-- Fields one after the other: each stands at the sum of the widths before it, and storing them in turn stores them all.
+use mathlib.Core.Path.{_≡_, refl, sym, ap, _∙_}
+use mathlib.Core.List.{List, [], _∷_, _++_, map, flatten}
+use Prim.Native.Nat.{ℕ, zero, suc, _+_, _<_}
+use native.Mathlib.Nat.{not-suc-le-zero, le-of-suc-le-suc, add-zero, add-suc, suc-add}
+use lib.ListN.{length, getD, take, drop, set, length-append}
+use lib.Seq.{sets, take-at, drop-append-add}
+use Rattle.format.specs.Bytes.{field}
+
+abbrev pub widths : List (List ℕ) → List ℕ
+widths fs = map length fs
+
+abbrev pub sum : List ℕ → ℕ
+sum [] = 0
+sum (w ∷ ws) = w + sum ws
+
+-- where field i starts
+abbrev pub start : List ℕ → ℕ → ℕ
+start ws i = sum (take i ws)
+
+pub length-flatten : (fs : List (List ℕ)) → length (flatten fs) ≡ sum (widths fs)
+unfolding flatten
+length-flatten [] = refl
+length-flatten (f ∷ fs) = length-append f (flatten fs) ∙ ap (λ (n : ℕ). length f + n) (length-flatten fs)
+
+pub field-flatten : (fs : List (List ℕ)) (i : ℕ) → i < length fs → field (getD (widths fs) i 0) (start (widths fs) i) (flatten fs) ≡ getD fs i []
+unfolding flatten field
+field-flatten [] i h = absurd (not-suc-le-zero h)
+field-flatten (f ∷ fs) zero h = take-at f (flatten fs) (length f) refl
+field-flatten (f ∷ fs) (suc i) h =
+    ap (take (getD (widths fs) i 0)) (drop-append-add f (flatten fs) (start (widths fs) i)) ∙ field-flatten fs i (le-of-suc-le-suc h)
+
+pub sets-append {ℓ} : {A : Type ℓ} (a b l : List A) (i : ℕ) → sets l i (a ++ b) ≡ sets (sets l i a) (i + length a) b
+sets-append [] b l i = rw add-zero
+sets-append (x ∷ a) b l i = rw (add-suc, ← suc-add) (sets-append a b (set l i x) (suc i))

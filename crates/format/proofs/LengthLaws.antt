@@ -1,0 +1,64 @@
+-- Laws of content lengths. The constant table beside the kinds holds each kind's formulas: one computed test over the whole table.
+use mathlib.Core.Path.{_≡_, refl, sym, ap, _∙_}
+use mathlib.Core.Bool.{false}
+use mathlib.Core.List.{List, [], _∷_, map}
+use mathlib.Core.Option.{Option, none, some, Option·map, bind}
+use Prim.Native.Nat.{ℕ, zero, suc, _+_, _*_, _^_, _≤_, _<_}
+use native.Mathlib.Nat.{not-suc-le-zero, le-of-suc-le-suc, le-of-lt, lt-of-le-of-lt, mul-le-mul-left, mul-lt-mul-of-pos-right}
+use lib.ListN.{length, getD, getElem?}
+use lib.Pow.{pow-pos}
+use Rattle.format.specs.declared.kinds.Kind.{Kind}
+use Rattle.format.specs.declared.lengths.Content.{Content}
+use Rattle.format.specs.declared.lengths.Content.the-variants.{Taken, NotTaken}
+use Rattle.format.specs.Kinds.{kind, kinds, rowOf}
+use Rattle.format.specs.Lengths.{formOf, fixedWords, pointWords, lengthsOf, taken, contentOf}
+use Rattle.format.proofs.KindLaws.{elem-in, elem-out}
+
+abbrev row : ℕ → ℕ → ℕ → ℕ → Content
+row f p fm pm = Taken (record { without = record { fixed = f; point = p }; with = record { fixed = fm; point = pm } })
+
+-- the table of src/lengths.rt: without m the fixed words and the words for each point, and with m the same
+unfoldable pub contents : List Content
+contents =
+    row 2 0 2 0
+    ∷ row 10 0 10 0
+    ∷ row 22 8 22 8
+    ∷ row 22 8 22 8
+    ∷ NotTaken
+    ∷ row 18 0 18 0
+    ∷ row 30 12 38 16
+    ∷ row 30 12 38 16
+    ∷ NotTaken
+    ∷ row 14 0 14 0
+    ∷ row 22 8 30 12
+    ∷ row 22 8 30 12
+    ∷ NotTaken
+    ∷ NotTaken
+    ∷ []
+
+-- the table's rule
+table-right : map (λ k. taken (lengthsOf k)) kinds ≡ contents
+unfolding contents kinds lengthsOf formOf fixedWords pointWords
+table-right = refl
+
+map-in : {A B : Type 0} (f : A → B) (l : List A) (i : ℕ) (a : A) (b : B) → i < length l → getD (map f l) i b ≡ f (getD l i a)
+map-in f [] i a b h = absurd (not-suc-le-zero h)
+map-in f (x ∷ l) zero a b h = refl
+map-in f (x ∷ l) (suc i) a b h = map-in f l i a b (le-of-suc-le-suc h)
+
+module _ (code i : ℕ) (r : i ≡ rowOf code kinds) where
+  pub content-in : (d : Content) → i < 14 → getD contents i d ≡ contentOf code
+  unfolding contentOf bind kinds contents
+  content-in d h =
+      ap (λ (l : List Content). getD l i d) (sym table-right)
+      ∙ (map-in (λ k. taken (lengthsOf k)) kinds i (kind 0 false false false) d h
+      ∙ ap (λ (o : Option Kind). taken (bind o lengthsOf)) (sym (ap (getElem? kinds) (sym r) ∙ elem-in kinds i (kind 0 false false false) h)))
+
+  pub content-out : 14 ≤ i → NotTaken ≡ contentOf code
+  unfolding contentOf bind kinds
+  content-out h = ap (λ (o : Option Kind). taken (bind o lengthsOf)) (sym (ap (getElem? kinds) (sym r) ∙ elem-out kinds i h))
+
+-- ---- what a formula comes to
+
+pub small-product : {a n : ℕ} → a < 2 ^ 16 → n < 2 ^ 32 → a * n < 2 ^ 48
+small-product {a} {n} p q = lt-of-le-of-lt (mul-le-mul-left a (le-of-lt q)) (mul-lt-mul-of-pos-right p (pow-pos 32))

@@ -1,0 +1,72 @@
+-- Laws of tests in order, as code meets them: a test passed and the next stands, a test failed and its refusal is the answer.
+use mathlib.Core.Path.{_≡_, refl, sym, ap, _∙_}
+use mathlib.Core.Bool.{Bool, true, false, cond}
+use mathlib.Core.List.{List, [], _∷_}
+use Prim.Native.Nat.{ℕ, zero, suc, _+_, _*_, _-_, _/_, _≤_, _<_}
+use native.Mathlib.Omega.{arith}
+use lib.Dec.{leb}
+use lib.ListN.{length, drop}
+use borrow.Author.Tests.{le-leb, leb-true, leb-false}
+use Rattle.format.specs.Order.{first, doublesFrom}
+
+module _ {A : Type 0} where
+  -- what is left of the tests from test k on
+  abbrev pub rest : ℕ → List (Bool × A) → A → A
+  rest k ts a = first (drop k ts) a
+
+  -- test k, and its refusal
+  abbrev pub okAt : ℕ → List (Bool × A) → Bool
+  okAt k [] = true
+  okAt zero (t ∷ ts) = t .0
+  okAt (suc k) (t ∷ ts) = okAt k ts
+
+  abbrev pub noAt : ℕ → List (Bool × A) → A → A
+  noAt k [] a = a
+  noAt zero (t ∷ ts) a = t .1
+  noAt (suc k) (t ∷ ts) a = noAt k ts a
+
+  passes : (ts : List (Bool × A)) (a : A) (k : ℕ) → okAt k ts ≡ true → rest k ts a ≡ rest (suc k) ts a
+  passes [] a zero e = refl
+  passes [] a (suc k) e = refl
+  passes (t ∷ ts) a zero e = rw e
+  passes (t ∷ ts) a (suc k) e = passes ts a k e
+
+  fails : (ts : List (Bool × A)) (a : A) (k : ℕ) → okAt k ts ≡ false → rest k ts a ≡ noAt k ts a
+  fails [] a zero e = refl
+  fails [] a (suc k) e = refl
+  fails (t ∷ ts) a zero e = rw e
+  fails (t ∷ ts) a (suc k) e = fails ts a k e
+
+  -- of an answer r that the tests from k on decide
+  pub on : (ts : List (Bool × A)) (a r : A) (k : ℕ) → r ≡ rest k ts a → okAt k ts ≡ true → r ≡ rest (suc k) ts a
+  on ts a r k p e = p ∙ passes ts a k e
+
+  pub stop : (ts : List (Bool × A)) (a r : A) (k : ℕ) → r ≡ rest k ts a → okAt k ts ≡ false → noAt k ts a ≡ r
+  stop ts a r k p e = sym (p ∙ fails ts a k e)
+
+  -- ---- a run of doubles
+
+  pub doubles-whole : (n at : ℕ) (s : List ℕ) (short : ℕ → A) (a : A) → at + 8 * n ≤ length s → first (doublesFrom n at s short) a ≡ a
+  doubles-whole zero at s short a h = refl
+  doubles-whole (suc n) at s short a h =
+      let p : at + 8 ≤ length s = omega arith in
+      let q : at + 8 + 8 * n ≤ length s = omega arith in
+      rw (le-leb (at + 8) (length s) p) (doubles-whole n (at + 8) s short a q)
+
+  -- by the test of the first of them
+  cut-by : (b : Bool) (at l n : ℕ) (short : ℕ → A) (r : A) → leb (at + 8) l ≡ b → at ≤ l → l < at + 8 * suc n → (at + 8 ≤ l → l < at + 8 + 8 * n → r ≡ short (at + 8 + (l - (at + 8)) / 8 * 8)) → cond b r (short at) ≡ short (at + (l - at) / 8 * 8)
+  cut-by true at l n short r e h k ih =
+      let p : at + 8 ≤ l = leb-true (at + 8) l e in
+      let q : l < at + 8 + 8 * n = omega arith in
+      let w : at + 8 + (l - (at + 8)) / 8 * 8 ≡ at + (l - at) / 8 * 8 = omega arith in
+      ih p q ∙ ap short w
+  cut-by false at l n short r e h k ih =
+      let p : l < at + 8 = leb-false (at + 8) l e in
+      let w : at ≡ at + (l - at) / 8 * 8 = omega arith in
+      ap short w
+
+  -- the first of them that the bytes end inside
+  pub doubles-cut : (n at : ℕ) (s : List ℕ) (short : ℕ → A) (a : A) → at ≤ length s → length s < at + 8 * n → first (doublesFrom n at s short) a ≡ short (at + (length s - at) / 8 * 8)
+  doubles-cut zero at s short a h k = absurd (omega arith)
+  doubles-cut (suc n) at s short a h k =
+      cut-by (leb (at + 8) (length s)) at (length s) n short (first (doublesFrom n (at + 8) s short) a) refl h k (λ p q. doubles-cut n (at + 8) s short a p q)

@@ -1,0 +1,67 @@
+-- `format::kinds::row_of` meets its contract: the rows from i on say how many there are still to pass.
+use mathlib.Core.Path.{_≡_, refl, sym, ap, _∙_}
+use Prim.Native.Nat.{suc, _+_, _-_, _≤_}
+use native.Mathlib.Nat.{zero-add}
+use native.Mathlib.Omega.{arith}
+use lib.ListN.{drop}
+use Rattle.format.specs.Kinds.{kinds, rowOf}
+use Rattle.format.proofs.KindLaws.{row-here, row-on}
+use Rattle.format.proofs.kinds.row_of.Statement.{statement}
+use Rattle.format.proofs.kinds.row_of.Tie as tie
+
+abbrev Inv-loop : tie.InvT-loop
+Inv-loop code i₀ i = (i ≤ 14) × (i + rowOf code (drop i kinds) ≡ rowOf code kinds)
+
+abbrev μ-loop : tie.MeasureT-loop
+μ-loop code i₀ i = 14 - i
+
+loop-holds : tie.Need-loop-holds Inv-loop μ-loop
+loop-holds c = (omega arith, zero-add _)
+
+mul-k : tie.Need-mul-k Inv-loop μ-loop
+mul-k c = omega arith
+
+array-copy-out-k : tie.Need-array-copy-out-k Inv-loop μ-loop
+array-copy-out-k c = omega arith
+
+returns : tie.Need-returns Inv-loop μ-loop
+unfolding kinds
+returns c =
+    let l = c .before .before .before .before in
+    let e : rowOf (l .before .args .code) (drop (l .loop .i) kinds) ≡ 0 = row-here (l .before .args .code) kinds _ (l .loop .i) (omega arith) (c .if1 .taken) in
+    (omega arith, omega arith)
+
+add-i : tie.Need-add-i Inv-loop μ-loop
+add-i c = omega arith
+
+loop-less : tie.Need-loop-less Inv-loop μ-loop
+loop-less c = omega arith
+
+loop-again : tie.Need-loop-again Inv-loop μ-loop
+unfolding kinds
+loop-again c =
+    let l = c .before .before .before .before in
+    let e = row-on (l .before .args .code) kinds _ (l .loop .i) (omega arith) (c .if1 .left) in
+    (omega arith, omega (arith, e))
+
+returns-2 : tie.Need-returns-2 Inv-loop μ-loop
+unfolding kinds rowOf
+returns-2 c =
+    let z : c .before .loop .i ≡ 14 = omega arith in
+    let e = rw z at (c .before .loop .inv .1) in
+    (e, omega arith)
+
+pub row-of-spec : {M : Type 1} → statement M
+row-of-spec =
+    tie.close
+    (tie.spec
+    Inv-loop
+    μ-loop
+    loop-holds
+    mul-k
+    array-copy-out-k
+    returns
+    add-i
+    loop-less
+    loop-again
+    returns-2)

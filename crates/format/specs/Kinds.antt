@@ -1,0 +1,55 @@
+-- The fourteen kinds of shape, as document 01's table has them: the code, and whether the kind has z, m and parts.
+use mathlib.Core.Bool.{Bool, true, false, cond}
+use mathlib.Core.List.{List, [], _∷_}
+use mathlib.Core.Option.{Option, none, some}
+use Prim.Native.Nat.{ℕ, suc}
+use lib.Dec.{eqb}
+use lib.ListN.{getElem?}
+use lib.IntN.{ℤ, pos, negsuc}
+use Rattle.format.specs.declared.kinds.Kind.{Kind}
+use Rattle.format.specs.declared.kinds.Found.{Found}
+use Rattle.format.specs.declared.kinds.Found.the-variants.{Is, Unknown}
+
+abbrev pub kind : ℕ → Bool → Bool → Bool → Kind
+kind code z m parts = record { code = code; z = z; m = m; parts = parts }
+
+--     code z     m     parts
+unfoldable pub kinds : List Kind
+kinds =
+    kind 0 false false false
+    ∷ kind 1 false false false
+    ∷ kind 3 false false true
+    ∷ kind 5 false false true
+    ∷ kind 8 false false false
+    ∷ kind 11 true true false
+    ∷ kind 13 true true true
+    ∷ kind 15 true true true
+    ∷ kind 18 true true false
+    ∷ kind 21 false true false
+    ∷ kind 23 false true true
+    ∷ kind 25 false true true
+    ∷ kind 28 false true false
+    ∷ kind 31 true true true
+    ∷ []
+
+-- where the row with this code stands; after the last, where there is none
+unfoldable pub rowOf : ℕ → List Kind → ℕ
+rowOf code [] = 0
+rowOf code (k ∷ rows) = cond (eqb (k .code) code) 0 (suc (rowOf code rows))
+
+abbrev pub found : Option Kind → Found
+found none = Unknown
+found (some k) = Is k
+
+-- the kind with this code
+unfoldable pub kindOf : ℤ → Found
+kindOf (pos n) = found (getElem? kinds (rowOf n kinds))
+kindOf (negsuc n) = Unknown
+
+abbrev pub isKind : Found → Bool
+isKind (Is k) = true
+isKind Unknown = false
+
+-- the code is one of the fourteen
+unfoldable pub known : ℤ → Bool
+known code = isKind (kindOf code)

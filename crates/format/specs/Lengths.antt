@@ -1,0 +1,85 @@
+-- How long a shape's content is, in words and with the kind's own field, over the kind's flags: document 01's table of kinds.
+use mathlib.Core.Bool.{Bool, true, false, cond, _&&_, _||_}
+use mathlib.Core.Option.{Option, none, some, Option·map, bind}
+use Prim.Native.Nat.{ℕ, _+_, _*_, _^_}
+use lib.Dec.{eqb, ltb}
+use lib.IntN.{pos}
+use lib.ListN.{getElem?}
+use Rattle.format.specs.declared.kinds.Kind.{Kind}
+use Rattle.format.specs.declared.lengths.Formula.{Formula}
+use Rattle.format.specs.declared.lengths.Lengths.{Lengths}
+use Rattle.format.specs.declared.lengths.Content.{Content}
+use Rattle.format.specs.declared.lengths.Content.the-variants.{Taken, NotTaken}
+use Rattle.format.specs.declared.lengths.Counted.{Counted}
+use Rattle.format.specs.declared.lengths.Counted.the-variants.{Is, Long}
+use Rattle.format.specs.Kinds.{kinds, rowOf}
+
+-- what a content holds beside the kind's field: nothing, one point, or parts of points
+pub data Form : Type 0 where
+  nothing : Form
+  onePoint : Form
+  parts : Form
+
+-- 8, 18, 28 and 31 are not taken yet
+unfoldable pub formOf : Kind → Option Form
+formOf k =
+    cond (eqb (k .code) 8 || eqb (k .code) 18 || eqb (k .code) 28 || eqb (k .code) 31) none
+    (cond (eqb (k .code) 0) (some nothing)
+    (cond (k .parts) (some parts) (some onePoint)))
+
+-- so many words where the flag is set
+abbrev pub given : Bool → ℕ → ℕ
+given flag words = cond flag words 0
+
+-- The words that do not depend on the counts. The kind's field takes 2 and a double 4; parts have a box of four doubles and two counts, and
+-- with z, and with m, a range of two doubles.
+unfoldable pub fixedWords : Form → Bool → Bool → ℕ
+fixedWords nothing z m = 2
+fixedWords onePoint z m = 10 + given z 4 + given m 4
+fixedWords parts z m = 22 + given z 8 + given m 8
+
+-- and those that each point of the parts takes: x, y, z and m
+unfoldable pub pointWords : Form → Bool → Bool → ℕ
+pointWords nothing z m = 0
+pointWords onePoint z m = 0
+pointWords parts z m = 8 + given z 4 + given m 4
+
+-- the content's length with p parts, of which each has a start, and n points
+unfoldable pub contentWords : Form → Bool → Bool → ℕ → ℕ → ℕ
+contentWords form z m p n = fixedWords form z m + 2 * p + pointWords form z m * n
+
+-- parts may lack the m that their kind has
+abbrev pub mayLackM : Form → Bool
+mayLackM nothing = false
+mayLackM onePoint = false
+mayLackM parts = true
+
+abbrev pub formula : Form → Bool → Bool → Formula
+formula form z m = record { fixed = fixedWords form z m; point = pointWords form z m }
+
+-- The two formulas of a kind: where m lacks, and where it is there. They are one where the kind has no m, and where it may not lack.
+abbrev pub lengthsFor : Kind → Form → Lengths
+lengthsFor k form =
+    record {
+      without = formula form (k .z) (cond (mayLackM form) false (k .m));
+      with = formula form (k .z) (k .m);
+    }
+
+unfoldable pub lengthsOf : Kind → Option Lengths
+lengthsOf k = Option·map (lengthsFor k) (formOf k)
+
+abbrev pub taken : Option Lengths → Content
+taken none = NotTaken
+taken (some l) = Taken l
+
+-- the formulas of the kind with this code, where it is a taken one
+unfoldable pub contentOf : ℕ → Content
+contentOf n = taken (bind (getElem? kinds (rowOf n kinds)) lengthsOf)
+
+-- the words as an i32 holds them
+abbrev pub heldWords : ℕ → Counted
+heldWords words = cond (ltb words (2 ^ 31)) (Is (record { 0 = pos words })) Long
+
+-- a formula's words for p parts and n points
+unfoldable pub counted : Formula → ℕ → ℕ → Counted
+counted f p n = heldWords (f .fixed + 2 * p + f .point * n)

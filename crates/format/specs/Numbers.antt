@@ -1,0 +1,49 @@
+-- The three numbers of a shapefile: i32 with the high byte first, i32 with the low byte first, and doubles with the low byte first.
+use mathlib.Core.List.{List, [], _∷_, map, flatten}
+use Prim.Native.Nat.{ℕ, zero, suc, _+_}
+use lib.IntN.{ℤ}
+use lib.Ieee.{Float, binary64, ofBits, toBits}
+use mir.Syntax.{w32}
+use mir.Val.{toZ, ofZ}
+use Rattle.format.specs.Bytes.{le, be, leBytes, beBytes, field}
+
+-- ---- by their bits
+
+unfoldable pub big : ℕ → List ℕ
+big n = beBytes 4 n
+
+unfoldable pub little : ℕ → List ℕ
+little n = leBytes 4 n
+
+unfoldable pub double : ℕ → List ℕ
+double d = leBytes 8 d
+
+-- ---- by their values: the number at a place of the bytes
+
+unfoldable pub beI32 : ℕ → List ℕ → ℤ
+beI32 at s = toZ w32 (be (field 4 at s))
+
+unfoldable pub leI32 : ℕ → List ℕ → ℤ
+leI32 at s = toZ w32 (le (field 4 at s))
+
+unfoldable pub leF64 : ℕ → List ℕ → Float
+leF64 at s = ofBits binary64 (le (field 8 at s))
+
+-- n doubles from a place on
+unfoldable pub doublesAt : ℕ → ℕ → List ℕ → List Float
+doublesAt zero at s = []
+doublesAt (suc n) at s = leF64 at s ∷ doublesAt n (at + 8) s
+
+-- ---- and the bytes of a number; a NaN, of which the logic has one, has the bits 7FF8000000000000
+
+unfoldable pub i32Be : ℤ → List ℕ
+i32Be z = big (ofZ w32 z)
+
+unfoldable pub i32Le : ℤ → List ℕ
+i32Le z = little (ofZ w32 z)
+
+unfoldable pub f64Le : Float → List ℕ
+f64Le x = double (toBits binary64 x)
+
+unfoldable pub f64sLe : List Float → List ℕ
+f64sLe xs = flatten (map f64Le xs)

@@ -1,0 +1,160 @@
+// The length of a shape's content in words, for the kinds that are taken: the fixed words and the words for each point.
+ghost use mathlib.Core.Path.{_≡_};
+ghost use Rattle.format.specs.Lengths.{contentOf, counted};
+use crate::kinds::row_of;
+use crate::units::Words;
+
+// A content's words: the fixed ones, 2 for each part, and so many for each point.
+pub struct Formula {
+    pub fixed: u16,
+    pub point: u16,
+}
+
+// The formulas of a kind, without m and with m.
+pub struct Lengths {
+    pub without: Formula,
+    pub with: Formula,
+}
+
+pub enum Content {
+    Taken(Lengths),
+    NotTaken,
+}
+
+// What a formula comes to; long, where an i32 does not hold it.
+pub enum Counted {
+    Is(Words),
+    Long,
+}
+
+// Beside each row of `KINDS` what its content takes.
+const CONTENTS: [Content; 14] = [
+    Content::Taken(Lengths {
+        without: Formula {
+            fixed: 2,
+            point: 0,
+        },
+        with: Formula {
+            fixed: 2,
+            point: 0,
+        },
+    }),
+    Content::Taken(Lengths {
+        without: Formula {
+            fixed: 10,
+            point: 0,
+        },
+        with: Formula {
+            fixed: 10,
+            point: 0,
+        },
+    }),
+    Content::Taken(Lengths {
+        without: Formula {
+            fixed: 22,
+            point: 8,
+        },
+        with: Formula {
+            fixed: 22,
+            point: 8,
+        },
+    }),
+    Content::Taken(Lengths {
+        without: Formula {
+            fixed: 22,
+            point: 8,
+        },
+        with: Formula {
+            fixed: 22,
+            point: 8,
+        },
+    }),
+    Content::NotTaken,
+    Content::Taken(Lengths {
+        without: Formula {
+            fixed: 18,
+            point: 0,
+        },
+        with: Formula {
+            fixed: 18,
+            point: 0,
+        },
+    }),
+    Content::Taken(Lengths {
+        without: Formula {
+            fixed: 30,
+            point: 12,
+        },
+        with: Formula {
+            fixed: 38,
+            point: 16,
+        },
+    }),
+    Content::Taken(Lengths {
+        without: Formula {
+            fixed: 30,
+            point: 12,
+        },
+        with: Formula {
+            fixed: 38,
+            point: 16,
+        },
+    }),
+    Content::NotTaken,
+    Content::Taken(Lengths {
+        without: Formula {
+            fixed: 14,
+            point: 0,
+        },
+        with: Formula {
+            fixed: 14,
+            point: 0,
+        },
+    }),
+    Content::Taken(Lengths {
+        without: Formula {
+            fixed: 22,
+            point: 8,
+        },
+        with: Formula {
+            fixed: 30,
+            point: 12,
+        },
+    }),
+    Content::Taken(Lengths {
+        without: Formula {
+            fixed: 22,
+            point: 8,
+        },
+        with: Formula {
+            fixed: 30,
+            point: 12,
+        },
+    }),
+    Content::NotTaken,
+    Content::NotTaken,
+];
+
+// The formulas of the kind with this code, where it is a taken one.
+pub fn lengths_of(code: u32) -> Content
+    ensures { λ r. ⌜ r ≡ contentOf code ⌝ }
+{
+    let i = row_of(code);
+    if i < 14 {
+        CONTENTS[i]
+    } else {
+        Content::NotTaken
+    }
+}
+
+// The words of a content with p parts and n points.
+pub fn content_words(f: Formula, p: u32, n: u32) -> Counted
+    ensures { λ r. ⌜ r ≡ counted f p n ⌝ }
+{
+    let words = (f.fixed as u64) + 2 * (p as u64) + (f.point as u64) * (n as u64);
+    if words < 0x8000_0000 {
+        Counted::Is(Words(words as i32))
+    } else {
+        Counted::Long
+    }
+}
