@@ -1,14 +1,13 @@
--- Laws of numbers as bytes, over the width: reading undoes writing and writing undoes reading; and a turn of each loop that reads or writes one.
-use mathlib.Core.Path.{_≡_, refl, sym, ap, ap₂, _∙_}
-use mathlib.Core.List.{List, [], _∷_, _++_, reverse, reverse-cons, reverse-append, reverse-reverse}
-use Prim.Native.Nat.{ℕ, zero, suc, _+_, _*_, _-_, _/_, _%_, _^_, _≤_, _<_}
-use native.Mathlib.Nat.{mul-suc, add-zero, add-suc, suc-add, lt-of-lt-of-le}
-use native.Mathlib.Numerals.{add-one}
+-- Laws of numbers as bytes, over the width: reading undoes writing, and writing undoes reading.
+use mathlib.Core.Path.{_≡_, refl, sym, ap, _∙_}
+use mathlib.Core.List.{List, [], _∷_, reverse, reverseAux, reverse-reverse}
+use Prim.Native.Nat.{ℕ, zero, suc, _+_, _*_, _/_, _%_, _^_, _≤_, _<_}
+use native.Mathlib.Nat.{mul-suc}
 use native.Mathlib.Omega.{arith}
-use lib.Arith.{digits-lt}
-use lib.Pow.{pow-add, pow-mono}
-use lib.ListN.{length, getD, take, drop, set, length-reverse, length-drop}
-use lib.Seq.{sets, set-comm, getD-drop, take-suc, drop-cons}
+use lib.Dec.{lit<}
+use lib.Pow.{pow-add}
+use lib.ListN.{length, getD, take, drop, length-reverse, length-drop}
+use lib.Seq.{length-take-le}
 use Rattle.format.specs.Bytes.{le, be, leBytes, beBytes, field}
 
 -- ---- lengths
@@ -38,15 +37,84 @@ be-beBytes n x h = ap le (reverse-reverse (leBytes n x)) ∙ le-leBytes n x h
 
 -- ---- and what is read is written back, where the list has bytes alone
 
--- every element is a byte: what a slice of u8 tells of its list
+-- every element is a byte
 abbrev pub AllBytes : List ℕ → Type 0
-AllBytes l = (i : ℕ) → getD l i 0 < 256
+AllBytes [] = Unit {0}
+AllBytes (b ∷ l) = (b < 256) × AllBytes l
+
+-- as a slice of u8 tells it of its list
+pub all-bytes : (l : List ℕ) → ((i : ℕ) → getD l i 0 < 256) → AllBytes l
+all-bytes [] h = tt
+all-bytes (b ∷ l) h = (h 0, all-bytes l (λ i. h (suc i)))
 
 pub leBytes-le : (l : List ℕ) → AllBytes l → leBytes (length l) (le l) ≡ l
 unfolding le leBytes
 leBytes-le [] h = refl
 leBytes-le (b ∷ l) h =
-    let p : b < 256 = h 0 in
+    let p : b < 256 = h .0 in
     let low : (b + 256 * le l) % 256 ≡ b = omega arith in
     let high : (b + 256 * le l) / 256 ≡ le l = omega arith in
-    rw (low, high) (ap (_∷_ b) (leBytes-le l (λ i. h (suc i))))
+    rw (low, high) (ap (_∷_ b) (leBytes-le l (h .1)))
+
+all-aux : (l r : List ℕ) → AllBytes l → AllBytes r → AllBytes (reverseAux l r)
+all-aux [] r h k = k
+all-aux (b ∷ l) r h k = all-aux l (b ∷ r) (h .1) (h .0, k)
+
+all-reverse : (l : List ℕ) → AllBytes l → AllBytes (reverse l)
+all-reverse l h = all-aux l [] h tt
+
+pub beBytes-be : (l : List ℕ) → AllBytes l → beBytes (length l) (be l) ≡ l
+unfolding be beBytes
+beBytes-be l h =
+    ap (λ (n : ℕ). reverse (leBytes n (le (reverse l)))) (sym (length-reverse l))
+    ∙ (ap reverse (leBytes-le (reverse l) (all-reverse l h)) ∙ reverse-reverse l)
+
+-- ---- it is below the width's power
+
+le-lt : (l : List ℕ) → AllBytes l → le l < 2 ^ (8 * length l)
+unfolding le
+le-lt [] h = lit< tt
+le-lt (b ∷ l) h =
+    let p : b < 256 = h .0 in
+    let i : le l < 2 ^ (8 * length l) = le-lt l (h .1) in
+    let e : 2 ^ (8 * suc (length l)) ≡ 2 ^ (8 * length l) * 256 = ap (λ (k : ℕ). 2 ^ k) (mul-suc 8 (length l)) ∙ pow-add 2 (8 * length l) 8 in
+    omega arith
+
+be-lt : (l : List ℕ) → AllBytes l → be l < 2 ^ (8 * length l)
+unfolding be
+be-lt l h = rw (← length-reverse l) (le-lt (reverse l) (all-reverse l h))
+
+-- ---- the same of a field that lies within the bytes
+
+all-take : (n : ℕ) (l : List ℕ) → AllBytes l → AllBytes (take n l)
+all-take zero l h = tt
+all-take (suc n) [] h = tt
+all-take (suc n) (b ∷ l) h = (h .0, all-take n l (h .1))
+
+all-drop : (n : ℕ) (l : List ℕ) → AllBytes l → AllBytes (drop n l)
+all-drop zero l h = h
+all-drop (suc n) [] h = tt
+all-drop (suc n) (b ∷ l) h = all-drop n l (h .1)
+
+pub length-field : (n at : ℕ) (s : List ℕ) → at + n ≤ length s → length (field n at s) ≡ n
+unfolding field
+length-field n at s h =
+    let k : n ≤ length (drop at s) = simp length-drop (omega arith) in
+    length-take-le n (drop at s) k
+
+module _ (n at : ℕ) (s : List ℕ) (h : AllBytes s) (k : at + n ≤ length s) where
+  all-field : AllBytes (field n at s)
+  unfolding field
+  all-field = all-take n (drop at s) (all-drop at s h)
+
+  pub leBytes-field : leBytes n (le (field n at s)) ≡ field n at s
+  leBytes-field = ap (λ (m : ℕ). leBytes m (le (field n at s))) (sym (length-field n at s k)) ∙ leBytes-le (field n at s) all-field
+
+  pub beBytes-field : beBytes n (be (field n at s)) ≡ field n at s
+  beBytes-field = ap (λ (m : ℕ). beBytes m (be (field n at s))) (sym (length-field n at s k)) ∙ beBytes-be (field n at s) all-field
+
+  pub le-field-lt : le (field n at s) < 2 ^ (8 * n)
+  le-field-lt = rw (length-field n at s k) at (le-lt (field n at s) all-field)
+
+  pub be-field-lt : be (field n at s) < 2 ^ (8 * n)
+  be-field-lt = rw (length-field n at s k) at (be-lt (field n at s) all-field)

@@ -1,10 +1,11 @@
 -- Fields one after the other: each stands at the sum of the widths before it, and storing them in turn stores them all.
 use mathlib.Core.Path.{_≡_, refl, sym, ap, _∙_}
 use mathlib.Core.List.{List, [], _∷_, _++_, map, flatten}
-use Prim.Native.Nat.{ℕ, zero, suc, _+_, _<_}
-use native.Mathlib.Nat.{not-suc-le-zero, le-of-suc-le-suc, add-zero, add-suc, suc-add}
+use Prim.Native.Nat.{ℕ, zero, suc, _+_, _-_, _≤_, _<_}
+use native.Mathlib.Nat.{not-suc-le-zero, le-of-suc-le-suc, zero-add, add-zero, add-suc, suc-add}
+use native.Mathlib.Omega.{arith}
 use lib.ListN.{length, getD, take, drop, set, length-append}
-use lib.Seq.{sets, take-at, drop-append-add}
+use lib.Seq.{sets, take-at, drop-append-add, drop-drop, take-add, take-take, take-nil}
 use Rattle.format.specs.Bytes.{field}
 
 abbrev pub widths : List (List ℕ) → List ℕ
@@ -33,3 +34,29 @@ field-flatten (f ∷ fs) (suc i) h =
 pub sets-append {ℓ} : {A : Type ℓ} (a b l : List A) (i : ℕ) → sets l i (a ++ b) ≡ sets (sets l i a) (i + length a) b
 sets-append [] b l i = rw add-zero
 sets-append (x ∷ a) b l i = rw (add-suc, ← suc-add) (sets-append a b (set l i x) (suc i))
+
+-- ---- bytes cut into fields of given widths
+
+abbrev pub pieces : List ℕ → ℕ → List ℕ → List (List ℕ)
+pieces [] at s = []
+pieces (w ∷ ws) at s = field w at s ∷ pieces ws (at + w) s
+
+pub flatten-pieces : (ws : List ℕ) (at : ℕ) (s : List ℕ) → flatten (pieces ws at s) ≡ field (sum ws) at s
+unfolding flatten field
+flatten-pieces [] at s = refl
+flatten-pieces (w ∷ ws) at s =
+    ap (λ (l : List ℕ). take w (drop at s) ++ l) (flatten-pieces ws (at + w) s ∙ ap (take (sum ws)) (sym (drop-drop w at s)))
+    ∙ sym (take-add w (sum ws) (drop at s))
+
+drop-take : (i n : ℕ) (l : List ℕ) → drop i (take (i + n) l) ≡ take n (drop i l)
+drop-take zero n l = rw zero-add
+drop-take (suc i) n [] = rw suc-add (sym (take-nil n))
+drop-take (suc i) n (x ∷ l) = rw suc-add (drop-take i n l)
+
+-- a field of the first n bytes is that field of the bytes
+pub field-take : (n w at : ℕ) (s : List ℕ) → at + w ≤ n → field w at (take n s) ≡ field w at s
+unfolding field
+field-take n w at s h =
+    let e : n ≡ at + (n - at) = omega arith in
+    let k : w ≤ n - at = omega arith in
+    ap (λ (m : ℕ). take w (drop at (take m s))) e ∙ (ap (take w) (drop-take at (n - at) s) ∙ take-take w (n - at) (drop at s) k)

@@ -6,5 +6,6 @@ pub mod KindLaws
 pub mod NanLaws
 pub mod NumberLaws
 pub mod OrderLaws
+pub mod SaidLaws
 pub mod SignLaws
 pub mod UnitLaws

@@ -1,12 +1,13 @@
 -- Which doubles are NaN, by the tests that code can make, and which bits come back when they are read and written again.
 use mathlib.Core.Path.{_≡_, refl, sym, ap, _∙_, subst}
 use mathlib.Core.Bool.{Bool, true, false, not}
-use Prim.Native.Nat.{ℕ, _*_, _%_, _≤_, _<_}
+use Prim.Native.Nat.{ℕ, _*_, _%_, _^_, _≤_, _<_}
 use lib.Dec.{T}
 use lib.Ieee.{Float, nan, inf, fin, Format, ones, hid, top, binary64, isNan, nanBits, ofBits, toBits, div, ne}
-use lib.Ieee.Bits.{nanBits-is, nanBits-above}
+use lib.Ieee.Bits.{nanBits-is, nanBits-above, toBits-ofBits}
 use lib.Ieee.Compare.{nan-differs, differs-from-itself}
 use borrow.Author.Tests.{lt-ltb, le-ltb}
+use Rattle.format.specs.Numbers.{PlainNan}
 
 is-nan : (x : Float) → isNan x ≡ true → x ≡ nan
 unfolding isNan
@@ -38,3 +39,17 @@ zero-by-zero = refl
 pub nan-bits : toBits binary64 nan ≡ 0x7ff8_0000_0000_0000
 unfolding toBits
 nan-bits = refl
+
+-- ---- bits that are read and written again
+
+pub bits-back : (d : ℕ) → d < 2 ^ 64 → PlainNan d → toBits binary64 (ofBits binary64 d) ≡ d
+bits-back d h p = by-nan (isNan (ofBits binary64 d)) refl
+  where
+    by-nan : (b : Bool) → isNan (ofBits binary64 d) ≡ b → toBits binary64 (ofBits binary64 d) ≡ d
+    by-nan true e =
+        let n : ofBits binary64 d ≡ nan = is-nan (ofBits binary64 d) e in
+        ap (toBits binary64) n ∙ (nan-bits ∙ sym (p n))
+    by-nan false e = toBits-ofBits binary64 d h (subst (λ (b : Bool). T (not b)) (sym e) tt)
+
+pub back-plain : (d : ℕ) → toBits binary64 (ofBits binary64 d) ≡ d → PlainNan d
+back-plain d e n = sym e ∙ (ap (toBits binary64) n ∙ nan-bits)

@@ -1,13 +1,14 @@
 -- Laws of tests in order, as code meets them: a test passed and the next stands, a test failed and its refusal is the answer.
 use mathlib.Core.Path.{_≡_, refl, sym, ap, _∙_}
-use mathlib.Core.Bool.{Bool, true, false, cond}
+use mathlib.Core.Bool.{Bool, true, false, cond, _&&_}
 use mathlib.Core.List.{List, [], _∷_}
 use Prim.Native.Nat.{ℕ, zero, suc, _+_, _*_, _-_, _/_, _≤_, _<_}
 use native.Mathlib.Omega.{arith}
-use lib.Dec.{leb}
+use lib.Dec.{T, leb}
 use lib.ListN.{length, drop}
 use borrow.Author.Tests.{le-leb, leb-true, leb-false}
 use Rattle.format.specs.Order.{first, doublesFrom}
+use Rattle.format.specs.Said.{Said, gives, refuses}
 
 module _ {A : Type 0} where
   -- what is left of the tests from test k on
@@ -70,3 +71,40 @@ module _ {A : Type 0} where
   doubles-cut zero at s short a h k = absurd (omega arith)
   doubles-cut (suc n) at s short a h k =
       cut-by (leb (at + 8) (length s)) at (length s) n short (first (doublesFrom n (at + 8) s short) a) refl h k (λ p q. doubles-cut n (at + 8) s short a p q)
+
+-- ---- an answer that was given passed every test
+
+abbrev pub isRefusal : {A : Type 0} → Said A → Bool
+isRefusal (gives a) = false
+isRefusal (refuses n vs) = true
+
+-- each test has a refusal beside it
+abbrev pub refusing : {A : Type 0} → List (Bool × Said A) → Bool
+refusing [] = true
+refusing (t ∷ ts) = isRefusal (t .1) && refusing ts
+
+both : (a b : Bool) → T (a && b) → T a × T b
+both true b t = (tt, t)
+both false b t = absurd t
+
+module _ {A : Type 0} (a x : A) where
+  no-gift : (r : Said A) → T (isRefusal r) → r ≡ gives x → ⊥
+  no-gift (gives b) t e = t
+  no-gift (refuses n vs) t e = let z : _≡_ {A = ℕ} 0 1 = cc in omega arith
+
+  by-test : (b : Bool) (r : Said A) (on : Said A) → T (isRefusal r) → cond b on r ≡ gives x → (b ≡ true) × (on ≡ gives x)
+  by-test true r on t e = (refl, e)
+  by-test false r on t e = absurd (no-gift r t e)
+
+  pub passed : (ts : List (Bool × Said A)) → T (refusing ts) → first ts (gives a) ≡ gives x → (k : ℕ) → okAt k ts ≡ true
+  passed [] r e k = refl
+  passed (t ∷ ts) r e zero = by-test (t .0) (t .1) (first ts (gives a)) (both (isRefusal (t .1)) (refusing ts) r .0) e .0
+  passed (t ∷ ts) r e (suc k) =
+      let q = both (isRefusal (t .1)) (refusing ts) r in
+      passed ts (q .1) (by-test (t .0) (t .1) (first ts (gives a)) (q .0) e .1) k
+
+  pub given : (ts : List (Bool × Said A)) → T (refusing ts) → first ts (gives a) ≡ gives x → a ≡ x
+  given [] r e = cc
+  given (t ∷ ts) r e =
+      let q = both (isRefusal (t .1)) (refusing ts) r in
+      given ts (q .1) (by-test (t .0) (t .1) (first ts (gives a)) (q .0) e .1)

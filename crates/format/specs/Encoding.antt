@@ -62,16 +62,20 @@ shapeWords (parted s) = contentWords Lengths.parts (there (s .z)) (there (s .m))
 
 -- ---- records and index entries
 
+-- a record's header, its number and its content's length, and an index entry, the record's offset and the same length, are two big numbers
+unfoldable pub twoBig : ℕ → ℕ → List ℕ
+twoBig a b = big a ++ big b
+
 -- record number n
 unfoldable pub recordBytes : Kind → ℕ → Shape → List ℕ
-recordBytes k n s = big n ++ (big (shapeWords s) ++ content k s)
+recordBytes k n s = twoBig n (shapeWords s) ++ content k s
 
 pub record Entry : Type 0 where
   pub offset : ℕ
   pub words : ℕ
 
-unfoldable pub entryBytes : Entry → List ℕ
-entryBytes e = big (e .offset) ++ big (e .words)
+abbrev pub entryBytes : Entry → List ℕ
+entryBytes e = twoBig (e .offset) (e .words)
 
 -- the records, numbered from n
 unfoldable pub recordsFrom : Kind → ℕ → List Shape → List ℕ

@@ -1,8 +1,9 @@
 -- The three numbers of a shapefile: i32 with the high byte first, i32 with the low byte first, and doubles with the low byte first.
+use mathlib.Core.Path.{_≡_}
 use mathlib.Core.List.{List, [], _∷_, map, flatten}
 use Prim.Native.Nat.{ℕ, zero, suc, _+_}
 use lib.IntN.{ℤ}
-use lib.Ieee.{Float, binary64, ofBits, toBits}
+use lib.Ieee.{Float, nan, binary64, ofBits, toBits}
 use mir.Syntax.{w32}
 use mir.Val.{toZ, ofZ}
 use Rattle.format.specs.Bytes.{le, be, leBytes, beBytes, field}
@@ -47,3 +48,7 @@ f64Le x = double (toBits binary64 x)
 
 unfoldable pub f64sLe : List Float → List ℕ
 f64sLe xs = flatten (map f64Le xs)
+
+-- a NaN among the bits is the one that is written
+abbrev pub PlainNan : ℕ → Type 0
+PlainNan d = ofBits binary64 d ≡ nan → d ≡ 0x7ff8_0000_0000_0000

@@ -1,0 +1,76 @@
+use mathlib.Core.Path.{_≡_, refl, sym, ap, _∙_}
+use Prim.Native.Nat.{ℕ, suc, _+_, _*_, _-_, _/_, _%_, _^_, _≤_, _<_}
+use native.Mathlib.Omega.{arith}
+use borrow.Author.Needs.{needs}
+use lib.Dec.{lit<}
+use lib.ListN.{length}
+use lib.Pow.{pow-mono}
+use Rattle.format.specs.Bytes.{le, be, field}
+use Rattle.fields.proofs.Turns.{be-turn, turn-fits, turn-lt}
+use Rattle.fields.proofs.be_number.Statement.{statement}
+use Rattle.fields.proofs.be_number.Tie as tie
+
+abbrev Inv-loop : tie.InvT-loop
+Inv-loop s at k n₀ i₀ n i = (i ≤ k) × (n ≡ be (field i at s)) × (n < 2 ^ (8 * i))
+
+abbrev μ-loop : tie.MeasureT-loop
+μ-loop s at k n₀ i₀ n i = k - i
+
+loop-holds : tie.Need-loop-holds Inv-loop μ-loop
+unfolding be le field
+loop-holds c = (omega arith, refl, lit< tt)
+
+mul-n : tie.Need-mul-n Inv-loop μ-loop
+mul-n c = omega (arith, turn-fits (c .before .loop .i) {b = 0} (omega arith) (c .before .loop .inv .2) (omega arith))
+
+add-wide : tie.Need-add-wide Inv-loop μ-loop
+add-wide c = omega arith
+
+shared-slice-read-wide : tie.Need-shared-slice-read-wide Inv-loop μ-loop
+shared-slice-read-wide c = omega arith
+
+wide-requires : tie.Need-wide-requires Inv-loop μ-loop
+wide-requires c κs = search needs
+
+add-n : tie.Need-add-n Inv-loop μ-loop
+add-n c =
+    let l = c .before .before .before in
+    record { fits = turn-fits (l .loop .i) (omega arith) (l .loop .inv .2) (c .wide .ensures .1) }
+
+add-i : tie.Need-add-i Inv-loop μ-loop
+add-i c = omega arith
+
+loop-less : tie.Need-loop-less Inv-loop μ-loop
+loop-less c = omega arith
+
+loop-again : tie.Need-loop-again Inv-loop μ-loop
+loop-again c =
+    let l = c .before .before .before in
+    let a = l .before .before .args in (
+      omega arith,
+      be-turn (a .s .now) (a .k) (a .at) (l .loop .i) (l .loop .n) (c .wide .result) (omega arith) (omega arith) (l .loop .inv .1) (c .wide .ensures .0),
+      turn-lt (l .loop .i) _ (omega arith) (l .loop .inv .2) (c .wide .ensures .1),
+    )
+
+returns : tie.Need-returns Inv-loop μ-loop
+returns c =
+    let l = c .before .loop in
+    let z : l .i ≡ c .before .before .before .args .k = omega arith in
+    (rw z at (l .inv .1), rw z at (l .inv .2))
+
+pub be-number-spec : {M : Type 1} → statement M
+be-number-spec =
+    tie.close
+    (tie.spec
+    Inv-loop
+    μ-loop
+    loop-holds
+    mul-n
+    add-wide
+    shared-slice-read-wide
+    wide-requires
+    add-n
+    add-i
+    loop-less
+    loop-again
+    returns)

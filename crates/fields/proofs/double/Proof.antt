@@ -1,0 +1,18 @@
+use mathlib.Core.Path.{sym, _∙_}
+use lib.Ieee.{binary64}
+use Rattle.format.proofs.NanLaws.{nan-pattern, no-nan-pattern, zero-by-zero}
+use borrow.Author.Needs.{needs}
+use Rattle.fields.proofs.double.Statement.{statement}
+use Rattle.fields.proofs.double.Tie as tie
+
+float-from-bits-result : tie.Need-float-from-bits-result
+float-from-bits-result c = no-nan-pattern binary64 (c .before .args .n) (c .if1 .left)
+
+returns : tie.Need-returns
+returns c = zero-by-zero ∙ sym (nan-pattern binary64 (c .before .args .n) (c .if1 .taken))
+
+returns-2 : tie.Need-returns-2
+returns-2 c = search needs
+
+pub double-spec : {M : Type 1} → statement M
+double-spec = tie.close (tie.spec float-from-bits-result returns returns-2)

@@ -1,0 +1,67 @@
+use mathlib.Core.Path.{_≡_, refl, sym, ap, _∙_}
+use Prim.Native.Nat.{ℕ, suc, _+_, _*_, _-_, _/_, _%_, _^_, _≤_, _<_}
+use native.Mathlib.Omega.{arith}
+use borrow.Author.Needs.{needs}
+use lib.ListN.{length, length-set}
+use lib.Seq.{sets}
+use Rattle.format.specs.Bytes.{beBytes, leBytes}
+use Rattle.fields.proofs.Turns.{put-be-turn}
+use Rattle.fields.proofs.put_be.Statement.{statement}
+use Rattle.fields.proofs.put_be.Tie as tie
+
+abbrev Inv-loop : tie.InvT-loop
+Inv-loop out₀ at x k v₀ i₀ out v i =
+    (i ≤ k) × (length out ≡ length out₀) × (sets out at (beBytes i v) ≡ sets out₀ at (beBytes k x))
+
+abbrev μ-loop : tie.MeasureT-loop
+μ-loop out₀ at x k v₀ i₀ out v i = i
+
+loop-holds : tie.Need-loop-holds Inv-loop μ-loop
+loop-holds c = (omega arith, refl, refl)
+
+sub-i : tie.Need-sub-i Inv-loop μ-loop
+sub-i c = omega arith
+
+cast-out : tie.Need-cast-out Inv-loop μ-loop
+cast-out c = omega arith
+
+add-out : tie.Need-add-out Inv-loop μ-loop
+add-out c = omega arith
+
+slice-write-out : tie.Need-slice-write-out Inv-loop μ-loop
+slice-write-out c = omega arith
+
+loop-less : tie.Need-loop-less Inv-loop μ-loop
+loop-less c = omega arith
+
+loop-again : tie.Need-loop-again Inv-loop μ-loop
+loop-again c =
+    let l = c .before .loop in
+    let a = c .before .before .args in
+    (omega arith, simp length-set (l .inv .1), put-be-turn (l .out) (a .at) (l .i) (l .v) (omega arith) ∙ l .inv .2)
+
+same-length : tie.Need-same-length Inv-loop μ-loop
+same-length c = omega arith
+
+returns : tie.Need-returns Inv-loop μ-loop
+unfolding beBytes leBytes
+returns c =
+    let l = c .before .loop in
+    let z : l .i ≡ 0 = omega arith in
+    rw z at (l .inv .2)
+
+pub put-be-spec : {M : Type 1} → statement M
+put-be-spec =
+    tie.close
+    (tie.spec
+    Inv-loop
+    μ-loop
+    loop-holds
+    sub-i
+    cast-out
+    add-out
+    slice-write-out
+    loop-less
+    loop-again
+    same-length
+    returns)

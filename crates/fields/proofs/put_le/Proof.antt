@@ -1,0 +1,68 @@
+use mathlib.Core.Path.{_≡_, refl, sym, ap, _∙_}
+use Prim.Native.Nat.{ℕ, suc, _+_, _*_, _-_, _/_, _%_, _^_, _≤_, _<_}
+use native.Mathlib.Omega.{arith}
+use borrow.Author.Needs.{needs}
+use native.Mathlib.Nat.{add-zero, sub-zero}
+use lib.ListN.{length, length-set}
+use lib.Seq.{sets}
+use Rattle.format.specs.Bytes.{leBytes}
+use Rattle.fields.proofs.Turns.{put-le-turn}
+use Rattle.fields.proofs.put_le.Statement.{statement}
+use Rattle.fields.proofs.put_le.Tie as tie
+
+abbrev Inv-loop : tie.InvT-loop
+Inv-loop out₀ at x k v₀ i₀ out v i =
+    (i ≤ k) × (length out ≡ length out₀) × (sets out (at + i) (leBytes (k - i) v) ≡ sets out₀ at (leBytes k x))
+
+abbrev μ-loop : tie.MeasureT-loop
+μ-loop out₀ at x k v₀ i₀ out v i = k - i
+
+loop-holds : tie.Need-loop-holds Inv-loop μ-loop
+loop-holds c = (omega arith, refl, rw (add-zero, sub-zero))
+
+cast-out : tie.Need-cast-out Inv-loop μ-loop
+cast-out c = omega arith
+
+add-out : tie.Need-add-out Inv-loop μ-loop
+add-out c = omega arith
+
+slice-write-out : tie.Need-slice-write-out Inv-loop μ-loop
+slice-write-out c = omega arith
+
+add-i : tie.Need-add-i Inv-loop μ-loop
+add-i c = omega arith
+
+loop-less : tie.Need-loop-less Inv-loop μ-loop
+loop-less c = omega arith
+
+loop-again : tie.Need-loop-again Inv-loop μ-loop
+loop-again c =
+    let l = c .before .loop in
+    let a = c .before .before .args in
+    (omega arith, simp length-set (l .inv .1), put-le-turn (l .out) (a .k) (a .at) (l .i) (l .v) (omega arith) ∙ l .inv .2)
+
+same-length : tie.Need-same-length Inv-loop μ-loop
+same-length c = omega arith
+
+returns : tie.Need-returns Inv-loop μ-loop
+unfolding leBytes
+returns c =
+    let l = c .before .loop in
+    let z : c .before .before .args .k - l .i ≡ 0 = omega arith in
+    rw z at (l .inv .2)
+
+pub put-le-spec : {M : Type 1} → statement M
+put-le-spec =
+    tie.close
+    (tie.spec
+    Inv-loop
+    μ-loop
+    loop-holds
+    cast-out
+    add-out
+    slice-write-out
+    add-i
+    loop-less
+    loop-again
+    same-length
+    returns)

@@ -1,0 +1,47 @@
+-- `header::entries::two_bytes` meets its contract: the second number goes in behind the first.
+use mathlib.Core.Path.{_≡_, ap, ap₂, _∙_}
+use mathlib.Core.List.{List}
+use Prim.Native.Nat.{ℕ}
+use lib.IntN.{ℤ}
+use lib.ListN.{replicate}
+use lib.Seq.{sets}
+use mir.Syntax.{w32}
+use mir.ValLaws.{toZ-ofZ}
+use borrow.Author.Needs.{needs}
+use Rattle.format.specs.Bytes.{leBytes, beBytes}
+use Rattle.format.specs.Numbers.{big, i32Be}
+use Rattle.header.proofs.entries.two_bytes.Statement.{statement}
+use Rattle.header.proofs.entries.two_bytes.Tie as tie
+
+slice-aggregate-put-be-i32 : tie.Need-slice-aggregate-put-be-i32
+slice-aggregate-put-be-i32 c = search needs
+
+put-be-i32-requires : tie.Need-put-be-i32-requires
+put-be-i32-requires c κs = search needs
+
+slice-aggregate-put-be-i32-2 : tie.Need-slice-aggregate-put-be-i32-2
+slice-aggregate-put-be-i32-2 c = search needs
+
+put-be-i32-requires-2 : tie.Need-put-be-i32-requires-2
+put-be-i32-requires-2 c κs = search needs
+
+returns : tie.Need-returns
+unfolding i32Be big beBytes leBytes
+returns c =
+    let q = c .before in
+    let p = q .before .before .before in
+    let a = p .before .before in
+    q .put-be-i322 .ensures
+    ∙ ap₂ (λ (l : List ℕ) (z : ℤ). sets l 4 (i32Be z))
+    (p .put-be-i32 .ensures ∙ ap (λ (z : ℤ). sets (replicate 8 0) 0 (i32Be z)) (toZ-ofZ w32 (a .args .a) (a .fits .a)))
+    (toZ-ofZ w32 (a .args .b) (a .fits .b))
+
+pub two-bytes-spec : {M : Type 1} → statement M
+two-bytes-spec =
+    tie.close
+    (tie.spec
+    slice-aggregate-put-be-i32
+    put-be-i32-requires
+    slice-aggregate-put-be-i32-2
+    put-be-i32-requires-2
+    returns)
