@@ -3,12 +3,22 @@ use mathlib.Core.Path.{_≡_, refl, sym, ap, _∙_}
 use mathlib.Core.Bool.{Bool, true, false, cond, _&&_}
 use mathlib.Core.List.{List, [], _∷_}
 use Prim.Native.Nat.{ℕ, zero, suc, _+_, _*_, _-_, _/_, _≤_, _<_}
+use native.Mathlib.Nat.{mul-suc, suc-mul, mul-zero, zero-mul, add-zero, add-div-left, div-eq-of-lt}
+use native.Mathlib.Numerals.{add-one}
 use native.Mathlib.Omega.{arith}
 use lib.Dec.{T, leb}
 use lib.ListN.{length, drop}
 use borrow.Author.Tests.{le-leb, leb-true, leb-false}
-use Rattle.format.specs.Order.{first, doublesFrom}
+use Rattle.format.specs.Order.{first, fieldsFrom}
 use Rattle.format.specs.Said.{Said, gives, refuses}
+
+-- where the field of w bytes stands that l bytes end inside, after one more field
+next-cut : (w : ℕ) → 0 < w → (at l : ℕ) → at + w ≤ l → at + w + (l - (at + w)) / w * w ≡ at + (l - at) / w * w
+next-cut w pw at l p =
+    let e : l - at ≡ w + (l - (at + w)) = omega arith in
+    let d : (l - at) / w ≡ (l - (at + w)) / w + 1 = rw e (add-div-left (l - (at + w)) pw) in
+    let q = (l - (at + w)) / w in
+    rw (d, add-one, suc-mul q w) (omega arith)
 
 module _ {A : Type 0} where
   -- what is left of the tests from test k on
@@ -45,32 +55,34 @@ module _ {A : Type 0} where
   pub stop : (ts : List (Bool × A)) (a r : A) (k : ℕ) → r ≡ rest k ts a → okAt k ts ≡ false → noAt k ts a ≡ r
   stop ts a r k p e = sym (p ∙ fails ts a k e)
 
-  -- ---- a run of doubles
+  -- ---- fields of one width, w bytes each
 
-  pub doubles-whole : (n at : ℕ) (s : List ℕ) (short : ℕ → A) (a : A) → at + 8 * n ≤ length s → first (doublesFrom n at s short) a ≡ a
-  doubles-whole zero at s short a h = refl
-  doubles-whole (suc n) at s short a h =
-      let p : at + 8 ≤ length s = omega arith in
-      let q : at + 8 + 8 * n ≤ length s = omega arith in
-      rw (le-leb (at + 8) (length s) p) (doubles-whole n (at + 8) s short a q)
+  module _ (w : ℕ) (pw : 0 < w) where
+    pub fields-whole : (n at : ℕ) (s : List ℕ) (short : ℕ → A) (a : A) → at + w * n ≤ length s → first (fieldsFrom w n at s short) a ≡ a
+    fields-whole zero at s short a h = refl
+    fields-whole (suc n) at s short a h =
+        let k : at + (w * n + w) ≤ length s = rw mul-suc at h in
+        let p : at + w ≤ length s = omega arith in
+        let q : at + w + w * n ≤ length s = omega arith in
+        rw (le-leb (at + w) (length s) p) (fields-whole n (at + w) s short a q)
 
-  -- by the test of the first of them
-  cut-by : (b : Bool) (at l n : ℕ) (short : ℕ → A) (r : A) → leb (at + 8) l ≡ b → at ≤ l → l < at + 8 * suc n → (at + 8 ≤ l → l < at + 8 + 8 * n → r ≡ short (at + 8 + (l - (at + 8)) / 8 * 8)) → cond b r (short at) ≡ short (at + (l - at) / 8 * 8)
-  cut-by true at l n short r e h k ih =
-      let p : at + 8 ≤ l = leb-true (at + 8) l e in
-      let q : l < at + 8 + 8 * n = omega arith in
-      let w : at + 8 + (l - (at + 8)) / 8 * 8 ≡ at + (l - at) / 8 * 8 = omega arith in
-      ih p q ∙ ap short w
-  cut-by false at l n short r e h k ih =
-      let p : l < at + 8 = leb-false (at + 8) l e in
-      let w : at ≡ at + (l - at) / 8 * 8 = omega arith in
-      ap short w
+    -- by the test of the first of them
+    cut-by : (b : Bool) (at l n : ℕ) (short : ℕ → A) (r : A) → leb (at + w) l ≡ b → at ≤ l → l < at + w * suc n → (at + w ≤ l → l < at + w + w * n → r ≡ short (at + w + (l - (at + w)) / w * w)) → cond b r (short at) ≡ short (at + (l - at) / w * w)
+    cut-by true at l n short r e h k ih =
+        let p : at + w ≤ l = leb-true (at + w) l e in
+        let m : l < at + (w * n + w) = rw mul-suc at k in
+        let q : l < at + w + w * n = omega arith in
+        ih p q ∙ ap short (next-cut w pw at l p)
+    cut-by false at l n short r e h k ih =
+        let p : l < at + w = leb-false (at + w) l e in
+        let m : l - at < w = omega arith in
+        ap short (rw (div-eq-of-lt m, zero-mul, add-zero) refl)
 
-  -- the first of them that the bytes end inside
-  pub doubles-cut : (n at : ℕ) (s : List ℕ) (short : ℕ → A) (a : A) → at ≤ length s → length s < at + 8 * n → first (doublesFrom n at s short) a ≡ short (at + (length s - at) / 8 * 8)
-  doubles-cut zero at s short a h k = absurd (omega arith)
-  doubles-cut (suc n) at s short a h k =
-      cut-by (leb (at + 8) (length s)) at (length s) n short (first (doublesFrom n (at + 8) s short) a) refl h k (λ p q. doubles-cut n (at + 8) s short a p q)
+    -- the first of them that the bytes end inside
+    pub fields-cut : (n at : ℕ) (s : List ℕ) (short : ℕ → A) (a : A) → at ≤ length s → length s < at + w * n → first (fieldsFrom w n at s short) a ≡ short (at + (length s - at) / w * w)
+    fields-cut zero at s short a h k = absurd (let m : length s < at + 0 = rw mul-zero at k in omega arith)
+    fields-cut (suc n) at s short a h k =
+        cut-by (leb (at + w) (length s)) at (length s) n short (first (fieldsFrom w n (at + w) s short) a) refl h k (λ p q. fields-cut n (at + w) s short a p q)
 
 -- ---- an answer that was given passed every test
 

@@ -15,7 +15,7 @@ module _ {A : Type 0} where
   first [] answer = answer
   first (t ∷ ts) answer = cond (t .0) (first ts answer) (t .1)
 
-  -- n doubles from a place on, each of them a field; `short` is the refusal that names a field's place
-  abbrev pub doublesFrom : ℕ → ℕ → List ℕ → (ℕ → A) → List (Bool × A)
-  doublesFrom zero at s short = []
-  doublesFrom (suc n) at s short = (whole 8 at s, short at) ∷ doublesFrom n (at + 8) s short
+  -- n fields of w bytes each from a place on; `short` is the refusal that names a field's place
+  abbrev pub fieldsFrom : ℕ → ℕ → ℕ → List ℕ → (ℕ → A) → List (Bool × A)
+  fieldsFrom w zero at s short = []
+  fieldsFrom w (suc n) at s short = (whole w at s, short at) ∷ fieldsFrom w n (at + w) s short

@@ -4,6 +4,7 @@ use mathlib.Core.Bool.{true, false}
 use mathlib.Core.List.{List, []}
 use Prim.Native.Nat.{ℕ, suc, _+_, _*_, _-_, _/_, _^_, _≤_, _<_}
 use native.Mathlib.Omega.{arith}
+use lib.Dec.{lit<}
 use lib.IntN.{ℤ, pos, negsuc}
 use lib.ListN.{length}
 use lib.Signed.{mag}
@@ -12,7 +13,7 @@ use mir.Val.{ofZ}
 use borrow.Author.Tests.{eq-eqb, ne-eqb, le-leb, lt-leb}
 use Rattle.format.specs.Numbers.{beI32, leI32}
 use Rattle.format.specs.Said.{Said, gives, short}
-use Rattle.format.proofs.OrderLaws.{rest, okAt, noAt, on, stop, doubles-whole, doubles-cut}
+use Rattle.format.proofs.OrderLaws.{rest, okAt, noAt, on, stop, fields-whole, fields-cut}
 use Rattle.header.specs.declared.bbox.BBoxZ.{BBoxZ}
 use Rattle.header.specs.declared.Header.{Header}
 use Rattle.header.specs.Box.{boxAt}
@@ -35,10 +36,10 @@ refused s k p e = stop (headerTests s) (gives (headerIn s)) (headerOf s) k p e
 
 -- the eight doubles, past the other tests
 pub cut : (s : List ℕ) → headerOf s ≡ left 8 s → 36 ≤ length s → length s < 100 → short (36 + (length s - 36) / 8 * 8) ≡ headerOf s
-cut s p h k = sym (p ∙ doubles-cut 8 36 s short (gives (headerIn s)) h k)
+cut s p h k = sym (p ∙ fields-cut 8 (lit< tt) 8 36 s short (gives (headerIn s)) h k)
 
 pub uncut : (s : List ℕ) → headerOf s ≡ left 8 s → 100 ≤ length s → headerOf s ≡ gives (headerIn s)
-uncut s p h = p ∙ doubles-whole 8 36 s short (gives (headerIn s)) h
+uncut s p h = p ∙ fields-whole 8 (lit< tt) 8 36 s short (gives (headerIn s)) h
 
 -- `z == 9994` in code is of z's bits
 pub is9994-yes : (z : ℤ) → mag z < 2 ^ 31 → ofZ w32 z ≡ 9994 → is9994 z ≡ true

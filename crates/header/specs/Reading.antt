@@ -7,7 +7,7 @@ use lib.IntN.{ℤ, pos, negsuc}
 use lib.Signed.{nonNeg}
 use Rattle.format.specs.Kinds.{known}
 use Rattle.format.specs.Numbers.{beI32, leI32}
-use Rattle.format.specs.Order.{first, whole, doublesFrom}
+use Rattle.format.specs.Order.{first, whole, fieldsFrom}
 use Rattle.format.specs.Said.{Said, gives, short, otherCode, wrongSize, unknown}
 use Rattle.header.specs.declared.Header.{Header}
 use Rattle.header.specs.declared.HeaderAnswer.{HeaderAnswer}
@@ -47,7 +47,7 @@ headerTests s =
     ∷ (whole 4 28 s, short 28)
     ∷ (whole 4 32 s, short 32)
     ∷ (known (leI32 32 s), unknown (leI32 32 s))
-    ∷ doublesFrom 8 36 s short
+    ∷ fieldsFrom 8 8 36 s short
 
 unfoldable pub headerOf : List ℕ → Said Header
 headerOf s = first (headerTests s) (gives (headerIn s))

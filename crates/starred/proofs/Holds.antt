@@ -1,0 +1,14 @@
+-- The table holds, by computation.
+use mathlib.Core.Path.{refl}
+use mathlib.Core.List.{flatten}
+use Rattle.format.specs.Bytes.{le, be, leBytes, beBytes, field}
+use Rattle.format.specs.Encoding.{headerBytes, entriesFrom, shapeWords}
+use Rattle.format.specs.Kinds.{kinds, rowOf, kindOf, known}
+use Rattle.format.specs.Lengths.{contentWords, fixedWords, pointWords}
+use Rattle.format.specs.Numbers.{big, little, double, beI32, leI32}
+use Rattle.header.specs.Reading.{headerOf}
+use Rattle.starred.specs.Starred.{rows, Starred}
+
+pub starred : Starred
+unfolding rows headerOf headerBytes flatten big little double beBytes leBytes be le field beI32 leI32 known kindOf rowOf kinds contentWords fixedWords pointWords entriesFrom shapeWords
+starred = refl
