@@ -8,3 +8,4 @@ pub mod Order
 pub mod Said
 pub mod Shapes
 pub mod Units
+pub mod WellFormed

@@ -1,9 +1,10 @@
 -- The three numbers of a shapefile: i32 with the high byte first, i32 with the low byte first, and doubles with the low byte first.
 use mathlib.Core.Path.{_≡_}
+use mathlib.Core.Bool.{Bool, true, false}
 use mathlib.Core.List.{List, [], _∷_, map, flatten}
 use Prim.Native.Nat.{ℕ, zero, suc, _+_}
 use lib.IntN.{ℤ}
-use lib.Ieee.{Float, nan, binary64, ofBits, toBits}
+use lib.Ieee.{Float, nan, inf, fin, binary64, ofBits, toBits}
 use mir.Syntax.{w32}
 use mir.Val.{toZ, ofZ}
 use Rattle.format.specs.Bytes.{le, be, leBytes, beBytes, field}
@@ -52,3 +53,14 @@ f64sLe xs = flatten (map f64Le xs)
 -- a NaN among the bits is the one that is written
 abbrev pub PlainNan : ℕ → Type 0
 PlainNan d = ofBits binary64 d ≡ nan → d ≡ 0x7ff8_0000_0000_0000
+
+-- ---- finite doubles
+
+abbrev pub isFinite : Float → Bool
+isFinite nan = false
+isFinite (inf s) = false
+isFinite (fin s m e) = true
+
+-- the double with these bits is no NaN and no infinity
+unfoldable pub finite : ℕ → Bool
+finite d = isFinite (ofBits binary64 d)

@@ -1,0 +1,1 @@
+// What the rules mean, proved: proofs/. There is no code here.

@@ -1,0 +1,60 @@
+-- The answers of this crate in document 01's terms, and what each call leaves in the lent stores.
+use mathlib.Core.Path.{_≡_}
+use mathlib.Core.Bool.{Bool, cond}
+use mathlib.Core.List.{List}
+use Prim.Native.Nat.{ℕ}
+use lib.Ieee.{Float}
+use lib.IntN.{ℤ, natAbs, _-ℤ_}
+use lib.ListN.{length}
+use lib.Seq.{sets}
+use Rattle.format.specs.Numbers.{leI32}
+use Rattle.format.specs.Order.{first}
+use Rattle.format.specs.Said.{Said, gives, short, wrongSize, room, unlessRefused}
+use Rattle.multipart.specs.declared.Body.{Body}
+use Rattle.multipart.specs.declared.PartAnswer.{PartAnswer}
+use Rattle.multipart.specs.declared.PartAnswer.the-variants as PartIs
+use Rattle.multipart.specs.declared.CountsAnswer.{CountsAnswer}
+use Rattle.multipart.specs.declared.CountsAnswer.the-variants as CountsIs
+use Rattle.multipart.specs.declared.BodyAnswer.{BodyAnswer}
+use Rattle.multipart.specs.declared.BodyAnswer.the-variants as BodyIs
+use Rattle.multipart.specs.Body.{countTests, countsIn, xyIn, zIn, mIn, bodyOf}
+use Rattle.multipart.specs.Parts.{isCount}
+
+-- ---- a part's count, from its start and its end
+
+abbrev pub saidPart : PartAnswer → Said ℕ
+saidPart (PartIs.Count n) = gives n
+saidPart PartIs.Size = wrongSize 0
+
+unfoldable pub partOf : ℤ → ℤ → Said ℕ
+partOf start end = cond (isCount (end -ℤ start)) (gives (natAbs (end -ℤ start))) (wrongSize 0)
+
+-- ---- the two counts of a body
+
+pub record Two : Type 0 where
+  pub parts : ℕ
+  pub points : ℕ
+
+abbrev pub saidCounts : CountsAnswer → Said Two
+saidCounts (CountsIs.Are p n) = gives (record { parts = p; points = n })
+saidCounts (CountsIs.Short at) = short at
+saidCounts (CountsIs.Size at) = wrongSize at
+
+unfoldable pub countsOf : List ℕ → Said Two
+countsOf s = first (countTests s) (gives (record { parts = natAbs (leI32 32 s); points = natAbs (leI32 36 s) }))
+
+-- ---- a body
+
+abbrev pub saidBody : BodyAnswer → Said Body
+saidBody (BodyIs.Whole b) = gives b
+saidBody (BodyIs.Short at) = short at
+saidBody (BodyIs.Size at) = wrongSize at
+saidBody (BodyIs.Room parts points) = room parts points
+
+-- what reading a body comes to: the answer, and the stores, of which entries past what is stored stay
+pub record ReadsBody (z m : Bool) (s counts : List ℕ) (xy zs ms : List Float) (answer : BodyAnswer) (counts′ : List ℕ) (xy′ zs′ ms′ : List Float) : Type 0 where
+  pub says : saidBody answer ≡ bodyOf z m s (length counts) (length xy) (length zs) (length ms)
+  pub counts-are : counts′ ≡ unlessRefused (saidBody answer) counts (sets counts 0 (countsIn s))
+  pub xy-are : xy′ ≡ unlessRefused (saidBody answer) xy (sets xy 0 (xyIn s))
+  pub z-are : zs′ ≡ unlessRefused (saidBody answer) zs (sets zs 0 (zIn z s))
+  pub m-are : ms′ ≡ unlessRefused (saidBody answer) ms (sets ms 0 (mIn z m s))

@@ -1,0 +1,4 @@
+-- Document 01's "Reading a body".
+pub mod Answers
+pub mod Body
+pub mod Parts
