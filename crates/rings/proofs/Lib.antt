@@ -1,5 +1,4 @@
 -- The laws of the definitions of specs/, and document 01's examples of rings.
 pub mod AnswerLaws
 pub mod Determined
-pub mod Examples
 pub mod PointLaws

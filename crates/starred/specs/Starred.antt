@@ -1,17 +1,20 @@
 -- Document 01's starred examples: what the definitions give beside what the document says, a row each, and one statement over all of them.
 use mathlib.Core.Path.{_≡_}
-use mathlib.Core.Bool.{true, false}
+use mathlib.Core.Bool.{Bool, true, false, cond}
 use mathlib.Core.List.{List, [], _∷_, _++_, map}
 use mathlib.Core.Option.{none}
-use Prim.Native.Nat.{ℕ, _^_}
-use lib.IntN.{ℤ, pos, negsuc}
-use lib.ListN.{replicate, take}
+use Prim.Native.Nat.{ℕ}
+use lib.Ieee.{Float, binary64, ofInt}
+use lib.IntN.{ℤ, pos}
+use lib.ListN.{take}
 use Rattle.format.specs.Encoding.{Box, Entry, headerBytes, entriesFrom}
 use Rattle.format.specs.Lengths.{parts, contentWords}
 use Rattle.format.specs.Said.{Said, gives, refuses}
 use Rattle.format.specs.Shapes.{Shape, parted}
 use Rattle.header.specs.declared.Header.{Header}
 use Rattle.header.specs.Reading.{headerOf}
+use Rattle.rings.specs.Answers.{closedOf, turningOf}
+use Rattle.rings.specs.Points.{Turning, outer, inner}
 
 -- numbers that a definition gives, and those of the document
 pub record Row : Type 0 where
@@ -55,6 +58,26 @@ abbrev entries : List Entry → List ℤ
 entries [] = []
 entries (e ∷ es) = entry e ++ entries es
 
+-- ---- rings
+
+-- (0,0), (0,1), (1,1), (1,0), (0,0), and reversed
+abbrev number : ℕ → Float
+number n = ofInt binary64 (pos n)
+
+abbrev square : List Float
+square = map number (0 ∷ 0 ∷ 0 ∷ 1 ∷ 1 ∷ 1 ∷ 1 ∷ 0 ∷ 0 ∷ 0 ∷ [])
+
+abbrev reversed : List Float
+reversed = map number (0 ∷ 0 ∷ 1 ∷ 0 ∷ 1 ∷ 1 ∷ 0 ∷ 1 ∷ 0 ∷ 0 ∷ [])
+
+-- 1 for closed and for inner, 0 for not closed and for outer
+abbrev isClosed : Bool → List ℤ
+isClosed b = cond b (pos 1) (pos 0) ∷ []
+
+abbrev isInner : Turning → List ℤ
+isInner outer = pos 0 ∷ []
+isInner inner = pos 1 ∷ []
+
 -- ---- the table
 
 unfoldable pub rows : List Row
@@ -71,6 +94,10 @@ rows =
     ∷ record { given = entries (entriesFrom 50 (line ∷ line ∷ [])); document = pos 50 ∷ pos 40 ∷ pos 94 ∷ pos 40 ∷ [] }
     -- PolygonZ p=1, n=5: 92 or 120 words
     ∷ record { given = pos (contentWords parts true false 1 5) ∷ pos (contentWords parts true true 1 5) ∷ []; document = pos 92 ∷ pos 120 ∷ [] }
+    -- the square is outer; reversed, inner; an empty run is not closed, and outer
+    ∷ record { given = shown isInner (turningOf square); document = pos 0 ∷ pos 0 ∷ [] }
+    ∷ record { given = shown isInner (turningOf reversed); document = pos 0 ∷ pos 1 ∷ [] }
+    ∷ record { given = shown isClosed (closedOf []) ++ shown isInner (turningOf []); document = pos 0 ∷ pos 0 ∷ pos 0 ∷ pos 0 ∷ [] }
     ∷ []
 
 -- every row of the table is as the document says
