@@ -1,4 +1,4 @@
--- The laws of the definitions of specs/, and document 01's examples of rings.
+-- The laws of the definitions of specs/.
 pub mod AnswerLaws
 pub mod Determined
 pub mod PointLaws

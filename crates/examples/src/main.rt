@@ -1,0 +1,256 @@
+// Document 01's examples, run: what each call answers, a line each, as the refusal's number and its values, or 0 and what was read.
+use format::kinds::Found;
+use format::lengths::Content;
+use format::lengths::Counted;
+use format::lengths::Formula;
+use format::units::Bytes;
+use format::units::InWords;
+use format::units::Words;
+use header::bbox::BBoxZ;
+use header::entries::ShapeIndex;
+use header::Header;
+use header::HeaderAnswer;
+use header::HeaderBytes;
+use header::Wrote;
+use libc::STDOUT_FILENO;
+use rings::CloseAnswer;
+use rings::ClosedAnswer;
+use rings::RingAnswer;
+
+fn say(text: &[u8]) {
+    io::write_all(STDOUT_FILENO, text);
+}
+
+fn number(n: u64) {
+    say(b" ");
+    io::print_decimal(STDOUT_FILENO, n);
+}
+
+fn signed(z: i32) {
+    if z < 0 {
+        say(b" -");
+        io::print_decimal(STDOUT_FILENO, 2147483648 - fields::unsigned(z) % 2147483648);
+    } else {
+        say(b" ");
+        io::print_decimal(STDOUT_FILENO, fields::unsigned(z));
+    }
+}
+
+fn end() {
+    say(b"\n");
+}
+
+// ---- headers
+
+fn show_header(s: &[u8]) {
+    match header::read_header(s) {
+        HeaderAnswer::Whole(h) => {
+            let words = h.file_length;
+            say(b" 0");
+            signed(words.0);
+            signed(h.version);
+            signed(h.shape_type);
+        }
+        HeaderAnswer::Short(at) => {
+            say(b" 1");
+            number(at as u64);
+        }
+        HeaderAnswer::Code(code) => {
+            say(b" 2");
+            signed(code);
+        }
+        HeaderAnswer::Size(at) => {
+            say(b" 3");
+            number(at as u64);
+        }
+        HeaderAnswer::Unknown(code) => {
+            say(b" 4");
+            signed(code);
+        }
+    }
+    end();
+}
+
+fn show_front(s: &[u8], n: usize) {
+    if n <= s.len() {
+        show_header(&s[0..n]);
+    }
+}
+
+fn box_of(x: f64) -> BBoxZ {
+    BBoxZ {
+        xmin: x,
+        ymin: x,
+        xmax: x,
+        ymax: x,
+        zmin: x,
+        zmax: x,
+        mmin: x,
+        mmax: x,
+    }
+}
+
+fn header_of(words: i32, kind: i32) -> HeaderBytes {
+    header::header_bytes(Header {
+        file_length: Words(words),
+        version: 1000,
+        shape_type: kind,
+        bbox: box_of(0.5),
+    })
+}
+
+fn headers() {
+    let good = header_of(50, 3).bytes;
+    say(b"whole header:");
+    show_header(&good);
+    say(b"27 bytes:");
+    show_front(&good, 27);
+    say(b"99 bytes:");
+    show_front(&good, 99);
+    say(b"3 bytes:");
+    show_front(&good, 3);
+    say(b"code 9995:");
+    show_header(&[0, 0, 39, 11]);
+    say(b"length -1:");
+    show_header(&header_of(-1, 3).bytes);
+    say(b"length 0:");
+    show_header(&header_of(0, 31).bytes);
+    say(b"kind 2 written:");
+    let other = header_of(50, 2);
+    let wrote = other.answer;
+    match wrote {
+        Wrote::Whole => say(b" 0"),
+        Wrote::Unknown(code) => {
+            say(b" 4");
+            signed(code);
+        }
+    }
+    end();
+}
+
+// ---- lengths
+
+fn show_words(f: Formula, p: u32, n: u32) {
+    match format::lengths::content_words(f, p, n) {
+        Counted::Is(w) => signed(w.0),
+        Counted::Long => say(b" 7 0"),
+    }
+}
+
+fn show_content(code: u32, p: u32, n: u32) {
+    say(b"words of");
+    number(code as u64);
+    say(b":");
+    match format::lengths::lengths_of(code) {
+        Content::Taken(l) => {
+            show_words(l.without, p, n);
+            show_words(l.with, p, n);
+        }
+        Content::NotTaken => say(b" 9"),
+    }
+    end();
+}
+
+fn lengths() {
+    show_content(3, 1, 2);
+    show_content(15, 1, 5);
+    show_content(11, 0, 1);
+    show_content(0, 0, 0);
+    show_content(8, 0, 1);
+    show_content(13, 2147483647, 2147483647);
+    say(b"entry 50, 40:");
+    let e = header::entries::index_entry_bytes(ShapeIndex {
+        offset: Words(50),
+        content_length: Words(40),
+    });
+    number(e[3] as u64);
+    number(e[7] as u64);
+    end();
+    say(b"words of 189 bytes:");
+    match format::units::to_words(Bytes(189)) {
+        InWords::Is(w) => signed(w.0),
+        InWords::Not => say(b" not"),
+    }
+    end();
+    say(b"bytes of -3 words, halved:");
+    match format::units::to_words(format::units::to_bytes(Words(-3))) {
+        InWords::Is(w) => signed(w.0),
+        InWords::Not => say(b" not"),
+    }
+    end();
+}
+
+// ---- kinds
+
+fn show_kind(code: i32) {
+    say(b"kind");
+    signed(code);
+    say(b":");
+    match format::kinds::find_kind(code) {
+        Found::Is(k) => {
+            number(k.z as u64);
+            number(k.m as u64);
+            number(k.parts as u64);
+        }
+        Found::Unknown => say(b" 4"),
+    }
+    end();
+}
+
+// ---- rings
+
+fn show_ring(xy: &[f64]) {
+    match rings::is_part_closed(xy) {
+        ClosedAnswer::Closed => say(b" closed"),
+        ClosedAnswer::Open => say(b" open"),
+        ClosedAnswer::Tables => say(b" 10"),
+    }
+    match rings::ring_type_from_points_ordering(xy) {
+        RingAnswer::OuterRing => say(b" outer"),
+        RingAnswer::InnerRing => say(b" inner"),
+        RingAnswer::Tables => say(b" 10"),
+    }
+    end();
+}
+
+fn show_close(store: &mut [f64], run: usize) {
+    match rings::close_points_if_not_already(store, run) {
+        CloseAnswer::Points(n) => number(n as u64),
+        CloseAnswer::Tables => say(b" 10 0"),
+        CloseAnswer::Room(n) => {
+            say(b" 6 0");
+            number(n as u64);
+        }
+    }
+    end();
+}
+
+fn ring_examples() {
+    say(b"square:");
+    show_ring(&[0.0, 0.0, 0.0, 1.0, 1.0, 1.0, 1.0, 0.0, 0.0, 0.0]);
+    say(b"reversed:");
+    show_ring(&[0.0, 0.0, 1.0, 0.0, 1.0, 1.0, 0.0, 1.0, 0.0, 0.0]);
+    say(b"halving:");
+    show_ring(&[0.0, 0.0, -5.0e-324, 1.0]);
+    say(b"odd:");
+    show_ring(&[0.0, 0.0, 1.0]);
+    let mut store = [0.0, 0.0, 0.0, 1.0, 1.0, 1.0, 9.0, 9.0];
+    say(b"closing 3 points:");
+    show_close(&mut store, 6);
+    say(b"closing them again:");
+    show_close(&mut store, 8);
+    say(b"closing with no room:");
+    store[6] = 7.0;
+    show_close(&mut store, 8);
+    say(b"closing an odd run with no room:");
+    show_close(&mut store, 7);
+}
+
+fn main() {
+    headers();
+    lengths();
+    show_kind(31);
+    show_kind(2);
+    show_kind(-1);
+    ring_examples();
+}
