@@ -1,16 +1,14 @@
 -- Reading a body with given z and m flags: what it holds, and the tests in the order in which document 01 judges them.
-use mathlib.Core.Bool.{Bool, true, false, cond, _&&_, _||_, not}
+use mathlib.Core.Bool.{Bool, cond, _&&_, _||_, not}
 use mathlib.Core.List.{List, [], _∷_, _++_, map}
-use Prim.Native.Nat.{ℕ, zero, suc, _+_, _*_}
+use Prim.Native.Nat.{ℕ, _+_, _*_}
 use lib.Dec.{leb}
-use lib.Ieee.{Float, binary64, neg, ofInt, lt, ofBits}
+use lib.Ieee.{Float, binary64, ofInt, lt, ofBits}
 use lib.IntN.{ℤ, pos, natAbs}
-use lib.ListN.{length}
 use lib.Signed.{nonNeg}
 use Rattle.format.specs.Numbers.{leI32, leF64, doublesAt}
 use Rattle.format.specs.Order.{whole, fieldsFrom, first}
 use Rattle.format.specs.Said.{Said, gives, short, wrongSize, room}
-use Rattle.multipart.specs.declared.BBox.{BBox}
 use Rattle.multipart.specs.declared.Range.{Range}
 use Rattle.multipart.specs.declared.Body.{Body}
 use Rattle.multipart.specs.Parts.{isCount, countOf, differences, startsAt}
@@ -84,6 +82,10 @@ bodyIn z m s =
 
 -- ---- the tests
 
+-- p parts and n points fit into the used stores, which have these lengths
+abbrev pub hasRoom : Bool → Bool → ℕ → ℕ → ℕ → ℕ → ℕ → ℕ → Bool
+hasRoom z m p n counts xy zs ms = leb p counts && leb (2 * n) xy && (not z || leb n zs) && (not m || leb n ms)
+
 module _ {A : Type 0} where
   -- box xy, p, n; then 3 if p is negative, else if n is
   abbrev pub countTests : List ℕ → List (Bool × Said A)
@@ -113,10 +115,9 @@ module _ {A : Type 0} where
       ++ (measureTests z (pointsIn s) (zAt s) s
       ++ measureTests m (pointsIn s) (mAt z s) s))
 
-  -- room is judged last, in used stores of these lengths
+  -- room is judged last
   abbrev pub roomTests : Bool → Bool → List ℕ → ℕ → ℕ → ℕ → ℕ → List (Bool × Said A)
-  roomTests z m s counts xy zs ms =
-      (leb (partsIn s) counts && leb (2 * pointsIn s) xy && (not z || leb (pointsIn s) zs) && (not m || leb (pointsIn s) ms), room (partsIn s) (pointsIn s)) ∷ []
+  roomTests z m s counts xy zs ms = (hasRoom z m (partsIn s) (pointsIn s) counts xy zs ms, room (partsIn s) (pointsIn s)) ∷ []
 
 -- what reading a body says, with stores of these lengths
 unfoldable pub bodyOf : Bool → Bool → List ℕ → ℕ → ℕ → ℕ → ℕ → Said Body

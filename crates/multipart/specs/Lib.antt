@@ -2,3 +2,4 @@
 pub mod Answers
 pub mod Body
 pub mod Parts
+pub mod Walks

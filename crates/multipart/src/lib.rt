@@ -1,6 +1,11 @@
 // Bodies with parts: part arithmetic and the body reader.
 ghost use mathlib.Core.Path.{_≡_};
 ghost use Rattle.multipart.specs.Answers.{saidPart, partOf, saidCounts, countsOf, ReadsBody};
+ghost use Rattle.multipart.specs.Walks.{Counted};
+use judge::Walk;
+
+mod judge;
+mod store;
 
 pub struct BBox {
     pub xmin: f64,
@@ -54,4 +59,76 @@ pub fn part_count(start: i32, end: i32) -> PartAnswer
         return PartAnswer::Size;
     }
     PartAnswer::Count(d as u32)
+}
+
+// How many parts and points the body says it has, which stand behind the box.
+pub fn read_counts(s: &[u8]) -> CountsAnswer
+    ensures { λ r. ⌜ saidCounts r ≡ countsOf (now (s .entry)) ⌝ }
+{
+    let len = s.len();
+    if len < 32 {
+        return CountsAnswer::Short(len / 8 * 8);
+    }
+    if len < 36 {
+        return CountsAnswer::Short(32);
+    }
+    let p = fields::le_i32_at(s, 32);
+    if len < 40 {
+        return CountsAnswer::Short(36);
+    }
+    let n = fields::le_i32_at(s, 36);
+    if p < 0 {
+        return CountsAnswer::Size(32);
+    }
+    if n < 0 {
+        return CountsAnswer::Size(36);
+    }
+    CountsAnswer::Are(p as u32, n as u32)
+}
+
+// The rest of a body whose counts are well, with p parts.
+fn read_rest(
+    s: &[u8],
+    z: bool,
+    m: bool,
+    p: usize,
+    counts: &mut [u32],
+    xy: &mut [f64],
+    zs: &mut [f64],
+    ms: &mut [f64],
+) -> BodyAnswer
+    requires { ⌜ Counted (now s) p ⌝ }
+    ensures { λ r. ⌜ ReadsBody z m (now (s .entry)) (now (counts .entry)) (now (xy .entry)) (now (zs .entry)) (now (ms .entry)) r (now (counts .exit)) (now (xy .exit)) (now (zs .exit)) (now (ms .exit)) ⌝ }
+{
+    let n = fields::le_i32_at(s, 36);
+    match judge::judge_rest(s, z, m, p, n) {
+        Walk::Short(at) => BodyAnswer::Short(at),
+        Walk::Size(at) => BodyAnswer::Size(at),
+        Walk::On(points) => {
+            if store::has_room(z, m, p, points, counts.len(), xy.len(), zs.len(), ms.len()) {
+                BodyAnswer::Whole(store::store_body(s, z, m, p, n, points, counts, xy, zs, ms))
+            } else {
+                BodyAnswer::Room(p, points)
+            }
+        }
+    }
+}
+
+// A body with these flags: what it holds, and its values in the stores.
+pub fn read_body(
+    s: &[u8],
+    z: bool,
+    m: bool,
+    counts: &mut [u32],
+    xy: &mut [f64],
+    zs: &mut [f64],
+    ms: &mut [f64],
+) -> BodyAnswer
+    ensures { λ r. ⌜ ReadsBody z m (now (s .entry)) (now (counts .entry)) (now (xy .entry)) (now (zs .entry)) (now (ms .entry)) r (now (counts .exit)) (now (xy .exit)) (now (zs .exit)) (now (ms .exit)) ⌝ }
+{
+    match read_counts(s) {
+        CountsAnswer::Short(at) => BodyAnswer::Short(at),
+        CountsAnswer::Size(at) => BodyAnswer::Size(at),
+        CountsAnswer::Are(p, _) => read_rest(s, z, m, p as usize, counts, xy, zs, ms),
+    }
 }

@@ -1,0 +1,90 @@
+-- Laws of the shape that tables describe: where the counts sum to the points, its bytes are those of the tables, one after the other.
+use mathlib.Core.Path.{_≡_, refl, ap, _∙_}
+use mathlib.Core.Bool.{Bool, true, false, cond, _&&_}
+use mathlib.Core.List.{List, [], _∷_, _++_, map, flatten, append-assoc, map-map}
+use Prim.Native.Nat.{ℕ, suc, _+_, _*_, _-_, _/_, _%_, _≤_}
+use native.Mathlib.Omega.{arith}
+use lib.Dec.{eqb}
+use lib.Ieee.{Float}
+use lib.ListN.{length, take, drop, length-append, length-drop, take-append-drop}
+use lib.Seq.{length-take-le}
+use borrow.Author.Tests.{eqb-true}
+use Rattle.format.specs.Encoding.{doubles, pointBytes, startsFrom}
+use Rattle.format.specs.Numbers.{little, f64Le, f64sLe}
+use Rattle.format.specs.Shapes.{Point}
+use Rattle.format.proofs.NumberLaws.{length-little, length-f64Le}
+use Rattle.layouts.specs.Answers.{agree}
+use Rattle.layouts.specs.Steps.{startsBytes, Agreed}
+use Rattle.layouts.specs.Tables.{sum, bits, pointsOf, splitBy}
+
+-- ---- tables that agree
+
+pub both : (a b : Bool) → a && b ≡ true → (a ≡ true) × (b ≡ true)
+both true b e = (refl, e)
+both false b e = absurd (let x : _≡_ {A = ℕ} 0 1 = cc in omega arith)
+
+pub agreed : (z m : Bool) (counts : List ℕ) (xy zs ms : List Float) → agree z m counts xy zs ms ≡ true → Agreed z m counts xy zs ms
+agreed z m counts xy zs ms e =
+    let a = eqb (length xy) (2 * sum counts) in
+    let b = eqb (length zs) (cond z (sum counts) 0) in
+    let c = eqb (length ms) (cond m (sum counts) 0) in
+    let p = both (a && b) c e in
+    let q = both a b (p .0) in
+    record {
+      xy-has = eqb-true (length xy) (2 * sum counts) (q .0);
+      zs-has = eqb-true (length zs) (cond z (sum counts) 0) (q .1);
+      ms-has = eqb-true (length ms) (cond m (sum counts) 0) (p .1);
+    }
+
+-- ---- points
+
+pub length-points : (xy : List Float) → length (pointsOf xy) ≡ length xy / 2
+length-points [] = refl
+length-points (x ∷ []) = refl
+length-points (x ∷ y ∷ xy) = omega (arith, length-points xy)
+
+pub points-bytes : (xy : List Float) → length xy % 2 ≡ 0 → flatten (map pointBytes (pointsOf xy)) ≡ f64sLe xy
+unfolding f64sLe f64Le pointBytes flatten
+points-bytes [] e = refl
+points-bytes (x ∷ []) e = absurd (omega arith)
+points-bytes (x ∷ y ∷ xy) e = rw append-assoc (ap (λ (l : List ℕ). f64Le x ++ (f64Le y ++ l)) (points-bytes xy (omega arith)))
+
+-- ---- parts
+
+rest-sum : (n s : ℕ) (ps : List Point) → n + s ≡ length ps → s ≡ length (drop n ps)
+rest-sum n s ps e = rw length-drop (omega arith)
+
+pub split-length : (counts : List ℕ) (ps : List Point) → length (splitBy counts ps) ≡ length counts
+unfolding splitBy
+split-length [] ps = refl
+split-length (n ∷ ns) ps = ap suc (split-length ns (drop n ps))
+
+pub split-whole : (counts : List ℕ) (ps : List Point) → sum counts ≡ length ps → flatten (splitBy counts ps) ≡ ps
+unfolding splitBy flatten
+split-whole [] [] e = refl
+split-whole [] (p ∷ ps) e = absurd (omega arith)
+split-whole (n ∷ ns) ps e =
+    ap (λ (l : List Point). take n ps ++ l) (split-whole ns (drop n ps) (rest-sum n (sum ns) ps e)) ∙ take-append-drop n ps
+
+pub split-starts : (counts : List ℕ) (ps : List Point) (a : ℕ) → sum counts ≡ length ps → flatten (map little (startsFrom a (splitBy counts ps))) ≡ startsBytes a counts
+unfolding splitBy startsFrom startsBytes flatten
+split-starts [] ps a e = refl
+split-starts (n ∷ ns) ps a e =
+    let k : n ≤ length ps = omega arith in
+    rw (length-take-le n ps k) (ap (λ (l : List ℕ). little a ++ l) (split-starts ns (drop n ps) (a + n) (rest-sum n (sum ns) ps e)))
+
+-- ---- runs of doubles and starts
+
+pub doubles-bytes : (xs : List Float) → doubles (map bits xs) ≡ f64sLe xs
+unfolding doubles f64sLe f64Le
+doubles-bytes xs = ap flatten (map-map _ bits xs)
+
+pub length-f64sLe : (xs : List Float) → length (f64sLe xs) ≡ 8 * length xs
+unfolding f64sLe flatten
+length-f64sLe [] = refl
+length-f64sLe (x ∷ xs) = length-append (f64Le x) (flatten (map f64Le xs)) ∙ omega (arith, length-f64Le x, length-f64sLe xs)
+
+pub length-starts : (counts : List ℕ) (a : ℕ) → length (startsBytes a counts) ≡ 4 * length counts
+unfolding startsBytes
+length-starts [] a = refl
+length-starts (n ∷ ns) a = length-append (little a) (startsBytes (a + n) ns) ∙ omega (arith, length-little a, length-starts ns (a + n))

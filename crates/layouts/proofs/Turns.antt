@@ -1,0 +1,47 @@
+-- One turn of each loop of the crate, in the loop's own terms: what is left to do before the turn is the turn and what is left after it.
+use mathlib.Core.Path.{_≡_, refl, sym}
+use mathlib.Core.Bool.{Bool, true, false}
+use mathlib.Core.List.{List}
+use Prim.Native.Nat.{ℕ, _+_, _*_, _-_, _≤_, _<_}
+use native.Mathlib.Numerals.{add-one}
+use native.Mathlib.Omega.{arith}
+use lib.Dec.{eqb}
+use lib.ListN.{length, getD, drop}
+use lib.Seq.{sets, drop-cons}
+use borrow.Author.Tests.{eq-eqb, ne-eqb, eqb-true, eqb-false}
+use Rattle.format.specs.Numbers.{little}
+use Rattle.format.proofs.LayoutLaws.{sets-append}
+use Rattle.format.proofs.NumberLaws.{length-little}
+use Rattle.layouts.specs.Steps.{startsBytes}
+use Rattle.layouts.specs.Tables.{sum}
+
+pub sum-drop : (counts : List ℕ) (i : ℕ) → i < length counts → sum (drop i counts) ≡ getD counts i 0 + sum (drop (i + 1) counts)
+sum-drop counts i h = rw (drop-cons counts i 0 h, add-one)
+
+-- ---- a sum that runs down
+
+-- two tests are one where each equation gives the other
+same-test : (a b c d : ℕ) → (a ≡ b → c ≡ d) → (c ≡ d → a ≡ b) → eqb a b ≡ eqb c d
+same-test a b c d f g = by (eqb c d) refl
+  where
+    by : (t : Bool) → eqb c d ≡ t → eqb a b ≡ t
+    by true e = eq-eqb a b (g (eqb-true c d e))
+    by false e = ne-eqb a b (λ q. eqb-false c d e (f q))
+
+pub down-turn : (counts : List ℕ) (left i : ℕ) → i < length counts → getD counts i 0 ≤ left → eqb (left - getD counts i 0) (sum (drop (i + 1) counts)) ≡ eqb left (sum (drop i counts))
+down-turn counts left i h k =
+    let e = sum-drop counts i h in
+    same-test (left - getD counts i 0) (sum (drop (i + 1) counts)) left (sum (drop i counts)) (λ q. omega arith) (λ q. omega arith)
+
+pub down-past : (counts : List ℕ) (left i : ℕ) → i < length counts → left < getD counts i 0 → false ≡ eqb left (sum (drop i counts))
+down-past counts left i h k =
+    let e = sum-drop counts i h in
+    sym (ne-eqb left (sum (drop i counts)) (λ q. omega arith))
+
+-- ---- starts that run on
+
+pub starts-turn : (out : List ℕ) (at i a : ℕ) (counts : List ℕ) → i < length counts → sets (sets out (at + 4 * i) (little a)) (at + 4 * (i + 1)) (startsBytes (a + getD counts i 0) (drop (i + 1) counts)) ≡ sets out (at + 4 * i) (startsBytes a (drop i counts))
+unfolding startsBytes
+starts-turn out at i a counts h =
+    let e : at + 4 * (i + 1) ≡ at + 4 * i + length (little a) = omega (arith, length-little a) in
+    rw (drop-cons counts i 0 h, e, add-one) (sym (sets-append (little a) _ out (at + 4 * i)))

@@ -1,0 +1,103 @@
+-- `layouts::puts::put_body` meets its contract: each field goes in right behind the one before it.
+use mathlib.Core.Path.{_≡_}
+use Prim.Native.Nat.{ℕ, _+_, _*_, _/_, _≤_}
+use native.Mathlib.Omega.{arith}
+use borrow.Author.Needs.{needs}
+use lib.ListN.{length}
+use Rattle.layouts.specs.Steps.{measureSize}
+use Rattle.layouts.specs.Tables.{sum}
+use Rattle.layouts.proofs.BodyLaws.{size-is, same-size, body-stored}
+use Rattle.layouts.proofs.puts.put_body.Statement.{statement}
+use Rattle.layouts.proofs.puts.put_body.Tie as tie
+
+abbrev e1 : tie.After-measure-size → tie.Start
+e1 c = c .before .before .before .before .before .before
+
+-- the points, as the code counts them
+abbrev n-of : tie.Start → ℕ
+n-of c = length (c .args .xy .now) / 2
+
+points : (c : tie.Start) → n-of c ≡ sum (c .args .counts .now)
+points c = omega (arith, c .pre .agreed .xy-has)
+
+-- where the fields end
+room : (c : tie.Start) → 40 + 4 * length (c .args .counts .now) + 16 * n-of c + measureSize (c .args .z) (n-of c) + measureSize (c .args .m) (n-of c) ≤ length (c .args .out .now)
+room c = rw (points c, size-is) (c .pre .fits)
+
+-- the values are as many as the layout has
+z-size : (c : tie.Start) → measureSize (c .args .z) (length (c .args .zs .now)) ≡ measureSize (c .args .z) (n-of c)
+z-size c = same-size (c .args .z) _ _ (rw (points c) (c .pre .agreed .zs-has))
+
+m-size : (c : tie.Start) → measureSize (c .args .m) (length (c .args .ms .now)) ≡ measureSize (c .args .m) (n-of c)
+m-size c = same-size (c .args .m) _ _ (rw (points c) (c .pre .agreed .ms-has))
+
+mul-xy-at : tie.Need-mul-xy-at
+mul-xy-at c = search needs
+
+add-xy-at : tie.Need-add-xy-at
+add-xy-at c = search needs
+
+mul-z-at : tie.Need-mul-z-at
+mul-z-at c = search needs
+
+add-z-at : tie.Need-add-z-at
+add-z-at c = search needs
+
+measure-size-requires : tie.Need-measure-size-requires
+measure-size-requires c κs = search needs
+
+add-m-at : tie.Need-add-m-at
+add-m-at c = omega (arith, room (e1 c))
+
+put-front-requires : tie.Need-put-front-requires
+put-front-requires c κs =
+    let a = e1 (c .before) in
+    (omega (arith, room a), a .pre .held)
+
+write-doubles-requires : tie.Need-write-doubles-requires
+write-doubles-requires c κs =
+    let a = e1 (c .before .before .before .before .before) in
+    omega (arith, room a, a .pre .agreed .xy-has)
+
+put-measure-requires : tie.Need-put-measure-requires
+put-measure-requires c κs =
+    let a = e1 (c .before .before .before .before .before .before .before .before .before) in
+    omega (arith, room a, z-size a)
+
+put-measure-requires-2 : tie.Need-put-measure-requires-2
+put-measure-requires-2 c κs =
+    let a = e1 (c .before .before .before .before .before .before .before .before .before .before .before .before .before) in
+    omega (arith, room a, m-size a)
+
+same-length : tie.Need-same-length
+same-length c = search needs
+
+returns : tie.Need-returns
+returns c =
+    let p = c .before .before in
+    let q = p .before .before .before .before in
+    let r = q .before .before .before .before in
+    let t = r .before .before .before .before in
+    let u = t .before .before in
+    body-stored _ _ _ _ _ _ _ (e1 u .pre .agreed) _ (points (e1 u)) _ (t .put-front .last .0) (r .write-doubles .last .0) (q .put-measure .last .0) (p .put-measure2 .last .0)
+    (t .put-front .ensures)
+    (r .write-doubles .ensures)
+    (q .put-measure .ensures)
+    (rw (u .measure-size .ensures) at (p .put-measure2 .ensures))
+
+pub put-body-spec : {M : Type 1} → statement M
+put-body-spec =
+    tie.close
+    (tie.spec
+    mul-xy-at
+    add-xy-at
+    mul-z-at
+    add-z-at
+    measure-size-requires
+    add-m-at
+    put-front-requires
+    write-doubles-requires
+    put-measure-requires
+    put-measure-requires-2
+    same-length
+    returns)

@@ -1,0 +1,49 @@
+-- `layouts::puts::put_front` meets its contract: what stands in the output after each call, and in the end the front in one.
+use borrow.Author.Needs.{needs}
+use Rattle.format.specs.Numbers.{little}
+use Rattle.layouts.proofs.BodyLaws.{front-stored}
+use Rattle.layouts.proofs.puts.put_front.Statement.{statement}
+use Rattle.layouts.proofs.puts.put_front.Tie as tie
+
+slice-aggregate-write-doubles : tie.Need-slice-aggregate-write-doubles
+slice-aggregate-write-doubles c = search needs
+
+write-doubles-requires : tie.Need-write-doubles-requires
+write-doubles-requires c κs = search needs
+
+put-le-requires : tie.Need-put-le-requires
+put-le-requires c κs = search needs
+
+put-le-requires-2 : tie.Need-put-le-requires-2
+put-le-requires-2 c κs = search needs
+
+put-starts-requires : tie.Need-put-starts-requires
+put-starts-requires c κs = search needs
+
+same-length : tie.Need-same-length
+same-length c = search needs
+
+returns : tie.Need-returns
+unfolding little
+returns c =
+    let p = c .before .before in
+    let q = p .before .before .before .before in
+    let r = q .before .before .before .before in
+    let t = r .before .before .before .before in
+    front-stored _ _ _ _ (t .write-doubles .last .0) (r .put-le .last .0) (q .put-le2 .last .0) (p .put-starts .last .0)
+    (t .write-doubles .ensures)
+    (r .put-le .ensures)
+    (q .put-le2 .ensures)
+    (p .put-starts .ensures)
+
+pub put-front-spec : {M : Type 1} → statement M
+put-front-spec =
+    tie.close
+    (tie.spec
+    slice-aggregate-write-doubles
+    write-doubles-requires
+    put-le-requires
+    put-le-requires-2
+    put-starts-requires
+    same-length
+    returns)

@@ -1,0 +1,39 @@
+-- What the steps of writing a body come to, of the tables as the code has them: the private functions cite these.
+use mathlib.Core.Path.{_≡_}
+use mathlib.Core.Bool.{Bool, cond}
+use mathlib.Core.List.{List, [], _∷_, _++_}
+use Prim.Native.Nat.{ℕ, _+_, _*_, _^_, _≤_, _<_}
+use lib.Ieee.{Float}
+use lib.ListN.{length}
+use Rattle.format.specs.Numbers.{little, f64sLe}
+use Rattle.header.specs.declared.bbox.BBoxZ.{BBoxZ}
+use Rattle.layouts.specs.Answers.{bodySize}
+use Rattle.layouts.specs.Tables.{sum}
+
+-- the bytes of a range and n values, where the layout has them
+abbrev pub measureSize : Bool → ℕ → ℕ
+measureSize flag n = cond flag (16 + 8 * n) 0
+
+-- the starts of parts with these counts, the first of them at a
+unfoldable pub startsBytes : ℕ → List ℕ → List ℕ
+startsBytes a [] = []
+startsBytes a (n ∷ ns) = little a ++ startsBytes (a + n) ns
+
+abbrev pub corners : BBoxZ → List Float
+corners b = b .xmin ∷ b .ymin ∷ b .xmax ∷ b .ymax ∷ []
+
+-- box, counts and starts, of n points
+unfoldable pub frontBytes : BBoxZ → List ℕ → ℕ → List ℕ
+frontBytes b counts n = f64sLe (corners b) ++ (little (length counts) ++ (little n ++ startsBytes 0 counts))
+
+-- the tables agree
+pub record Agreed (z m : Bool) (counts : List ℕ) (xy zs ms : List Float) : Type 0 where
+  pub xy-has : length xy ≡ 2 * sum counts
+  pub zs-has : length zs ≡ cond z (sum counts) 0
+  pub ms-has : length ms ≡ cond m (sum counts) 0
+
+-- and an i32 holds the points, and there is room for the body
+pub record Placed (z m : Bool) (counts : List ℕ) (xy zs ms : List Float) (room : ℕ) : Type 0 where
+  pub agreed : Agreed z m counts xy zs ms
+  pub held : sum counts < 2 ^ 31
+  pub fits : bodySize z m (length counts) (sum counts) ≤ room

@@ -1,0 +1,44 @@
+-- The shape that lent tables describe: part counts, and x y x y .., z and m as flat lists of doubles; the box and the ranges as given.
+use mathlib.Core.Bool.{Bool, true, false}
+use mathlib.Core.List.{List, [], _∷_, map}
+use mathlib.Core.Option.{Option, none, some}
+use Prim.Native.Nat.{ℕ, _+_}
+use lib.Ieee.{Float, binary64, toBits}
+use lib.ListN.{take, drop}
+use Rattle.format.specs.Shapes.{Point, BoxXY, Measure, Parts}
+use Rattle.header.specs.declared.bbox.BBoxZ.{BBoxZ}
+
+abbrev pub sum : List ℕ → ℕ
+sum [] = 0
+sum (n ∷ ns) = n + sum ns
+
+abbrev pub bits : Float → ℕ
+bits x = toBits binary64 x
+
+abbrev pub pointsOf : List Float → List Point
+pointsOf [] = []
+pointsOf (x ∷ []) = []
+pointsOf (x ∷ y ∷ xy) = record { x = bits x; y = bits y } ∷ pointsOf xy
+
+-- so many points for each part, in turn
+unfoldable pub splitBy : List ℕ → List Point → List (List Point)
+splitBy [] ps = []
+splitBy (n ∷ ns) ps = take n ps ∷ splitBy ns (drop n ps)
+
+-- z or m, where the layout has it: the range, and the values
+abbrev pub measureOf : Bool → Float → Float → List Float → Option Measure
+measureOf false low high values = none
+measureOf true low high values = some (record { low = bits low; high = bits high; values = map bits values })
+
+abbrev pub boxOf : BBoxZ → BoxXY
+boxOf b = record { xmin = bits (b .xmin); ymin = bits (b .ymin); xmax = bits (b .xmax); ymax = bits (b .ymax) }
+
+-- the shape with parts, in a layout with z or without, and with m or without
+unfoldable pub partsOf : Bool → Bool → BBoxZ → List ℕ → List Float → List Float → List Float → Parts
+partsOf z m b counts xy zs ms =
+    record {
+      box = boxOf b;
+      parts = splitBy counts (pointsOf xy);
+      z = measureOf z (b .zmin) (b .zmax) zs;
+      m = measureOf m (b .mmin) (b .mmax) ms;
+    }

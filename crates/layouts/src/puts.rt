@@ -1,0 +1,64 @@
+// A body's bytes go in from the front of the output: box, counts, starts, xy, z and m. Internal: a caller shows that they fit.
+ghost use mathlib.Core.Path.{_≡_};
+ghost use Prim.Native.Nat.{_+_, _*_, _≤_, _<_, _^_};
+ghost use lib.ListN.{length};
+ghost use lib.Seq.{sets};
+ghost use Rattle.format.specs.Encoding.{measureBytes, partsBytes};
+ghost use Rattle.layouts.specs.Steps.{measureSize, startsBytes, frontBytes, Placed};
+ghost use Rattle.layouts.specs.Tables.{sum, measureOf, partsOf};
+use crate::judge::measure_size;
+use header::bbox::BBoxZ;
+
+// Where each part starts: the number of the points before it.
+fn put_starts(out: &mut [u8], at: usize, counts: &[u32])
+    requires { ⌜ (at + 4 * length (now counts) ≤ length (now out)) × (sum (now counts) < 2 ^ 31) ⌝ }
+    ensures { λ _. ⌜ now (out .exit) ≡ sets (now (out .entry)) at (startsBytes 0 (now (counts .entry))) ⌝ }
+{
+    let mut start: u64 = 0;
+    let mut i = 0;
+    while i < counts.len() {
+        fields::put_le(out, at + 4 * i, start, 4);
+        start += counts[i] as u64;
+        i += 1;
+    }
+}
+
+// What every layout has in front: box, counts and starts.
+fn put_front(out: &mut [u8], bbox: BBoxZ, counts: &[u32], n: usize)
+    requires { ⌜ (40 + 4 * length (now counts) ≤ length (now out)) × (sum (now counts) < 2 ^ 31) ⌝ }
+    ensures { λ _. ⌜ now (out .exit) ≡ sets (now (out .entry)) 0 (frontBytes bbox (now (counts .entry)) n) ⌝ }
+{
+    let corners = [bbox.xmin, bbox.ymin, bbox.xmax, bbox.ymax];
+    fields::write_doubles(out, 0, &corners);
+    fields::put_le(out, 32, counts.len() as u64, 4);
+    fields::put_le(out, 36, n as u64, 4);
+    put_starts(out, 40, counts);
+}
+
+// A range and its values, where the layout has them.
+fn put_measure(out: &mut [u8], at: usize, flag: bool, low: f64, high: f64, values: &[f64])
+    requires { ⌜ at + measureSize flag (length (now values)) ≤ length (now out) ⌝ }
+    ensures { λ _. ⌜ now (out .exit) ≡ sets (now (out .entry)) at (measureBytes (measureOf flag low high (now (values .entry)))) ⌝ }
+{
+    if flag {
+        let range = [low, high];
+        let values_at = at + 16;
+        fields::write_doubles(out, at, &range);
+        fields::write_doubles(out, values_at, values);
+    }
+}
+
+// All of a body, field after field.
+pub(crate) fn put_body(out: &mut [u8], z: bool, m: bool, bbox: BBoxZ, counts: &[u32], xy: &[f64], zs: &[f64], ms: &[f64])
+    requires { ⌜ Placed z m (now counts) (now xy) (now zs) (now ms) (length (now out)) ⌝ }
+    ensures { λ _. ⌜ now (out .exit) ≡ sets (now (out .entry)) 0 (partsBytes (partsOf z m bbox (now (counts .entry)) (now (xy .entry)) (now (zs .entry)) (now (ms .entry)))) ⌝ }
+{
+    let n = xy.len() / 2;
+    let xy_at = 40 + 4 * counts.len();
+    let z_at = xy_at + 16 * n;
+    let m_at = z_at + measure_size(z, n);
+    put_front(out, bbox, counts, n);
+    fields::write_doubles(out, xy_at, xy);
+    put_measure(out, z_at, z, bbox.zmin, bbox.zmax, zs);
+    put_measure(out, m_at, m, bbox.mmin, bbox.mmax, ms);
+}

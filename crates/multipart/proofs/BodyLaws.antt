@@ -1,0 +1,128 @@
+-- Laws of a body: where its values stand and that they fit, and what is said of it, by the tests that pass and the one that fails.
+use mathlib.Core.Path.{_≡_, refl, sym, ap, _∙_, subst}
+use mathlib.Core.Bool.{Bool, true, false, cond, not, _&&_, _||_}
+use mathlib.Core.List.{List, [], _++_, map}
+use Prim.Native.Nat.{ℕ, _+_, _*_, _≤_}
+use native.Mathlib.Omega.{arith}
+use lib.Dec.{T, leb}
+use lib.IntN.{ℤ}
+use lib.ListN.{length}
+use borrow.Author.Tests.{leb-true}
+use Rattle.format.specs.Numbers.{doublesAt}
+use Rattle.format.specs.Order.{first}
+use Rattle.format.specs.Said.{Said, gives, room}
+use Rattle.multipart.specs.declared.Body.{Body}
+use Rattle.multipart.specs.Body.{partsIn, countsIn, pointsIn, pairsAt, zAt, mAt, raised, xyIn, zIn, mIn, bodyIn, countTests, restTests, hasRoom, roomTests, bodyOf}
+use Rattle.multipart.specs.Parts.{countOf}
+use Rattle.multipart.specs.Walks.{Passes, Refuses, differencesOf, endAfter, Ready}
+use Rattle.multipart.proofs.RestLaws.{z-place}
+use Rattle.multipart.proofs.TestLaws.{first-append}
+
+-- ---- where it stands
+
+-- a range alone ends before its values do
+range-le : (flag : Bool) (n : ℕ) → cond flag 16 0 ≤ cond flag (16 + 8 * n) 0
+range-le true n = omega arith
+range-le false n = omega arith
+
+module _ (z m : Bool) (s : List ℕ) (points end : ℕ) (points-are : points ≡ pointsIn s) (end-is : end ≡ zAt s) (ends : endAfter m (pointsIn s) (mAt z s) ≤ length s) where
+  pub m-place : endAfter z points end ≡ mAt z s
+  unfolding mAt
+  m-place = rw (points-are, end-is)
+
+  pub box-inside : 40 ≤ length s
+  unfolding mAt zAt pairsAt
+  box-inside = omega (arith, ends)
+
+  pub z-range-inside : end + cond z 16 0 ≤ length s
+  unfolding mAt
+  z-range-inside = rw end-is (omega (arith, ends, range-le z (pointsIn s)))
+
+  pub m-range-inside : endAfter z points end + cond m 16 0 ≤ length s
+  m-range-inside = rw m-place (omega (arith, ends, range-le m (pointsIn s)))
+
+-- ---- that it fits
+
+both-true : (a b : Bool) → (a && b) ≡ true → (a ≡ true) × (b ≡ true)
+both-true true b e = (refl, e)
+both-true false b e = absurd (subst T (sym e) tt)
+
+-- a store that is used has room
+used-room : (flag : Bool) (n k : ℕ) → (not flag || leb n k) ≡ true → cond flag n 0 ≤ k
+used-room true n k e = leb-true n k e
+used-room false n k e = omega arith
+
+module _ (z m : Bool) (s : List ℕ) (p : ℕ) (n : ℤ) (points counts xy zs ms : ℕ) (r : Ready z m s p n points counts xy zs ms) where
+  pub pairs-end : 40 + 4 * p + 16 * points ≡ zAt s
+  pairs-end = z-place s p points (r .parts-are) (r .points-are)
+
+  pub all-inside : endAfter m points (endAfter z points (40 + 4 * p + 16 * points)) ≤ length s
+  unfolding mAt
+  all-inside = rw (pairs-end, r .points-are) (r .ends)
+
+  room-used : (leb p counts && leb (2 * points) xy && (not z || leb points zs) ≡ true) × ((not m || leb points ms) ≡ true)
+  room-used = both-true _ _ (r .room)
+
+  room-xy : (leb p counts && leb (2 * points) xy ≡ true) × ((not z || leb points zs) ≡ true)
+  room-xy = both-true _ _ (room-used .0)
+
+  pub counts-room : p ≤ counts
+  counts-room = leb-true p counts (both-true _ _ (room-xy .0) .0)
+
+  pub xy-room : 2 * points ≤ xy
+  xy-room = leb-true (2 * points) xy (both-true (leb p counts) (leb (2 * points) xy) (room-xy .0) .1)
+
+  pub z-room : cond z points 0 ≤ zs
+  z-room = used-room z points zs (room-xy .1)
+
+  pub m-room : cond m points 0 ≤ ms
+  m-room = used-room m points ms (room-used .1)
+
+  -- what the code stores is what the definition has
+  pub counts-stored : map countOf (differencesOf p n s) ≡ countsIn s
+  unfolding countsIn
+  counts-stored = rw (r .parts-are, r .number-is)
+
+  pub xy-stored : doublesAt (2 * points) (40 + 4 * p) s ≡ xyIn s
+  unfolding xyIn pairsAt
+  xy-stored = rw (r .parts-are, r .points-are)
+
+  pub z-stored : cond z (doublesAt points (40 + 4 * p + 16 * points + 16) s) [] ≡ zIn z s
+  unfolding zIn
+  z-stored = rw (pairs-end, r .points-are)
+
+  pub m-stored : cond m (map raised (doublesAt points (endAfter z points (40 + 4 * p + 16 * points) + 16) s)) [] ≡ mIn z m s
+  unfolding mIn mAt
+  m-stored = rw (pairs-end, r .points-are)
+
+-- ---- what is said of it
+
+module _ (z m : Bool) (s : List ℕ) (counts xy zs ms : ℕ) where
+  abbrev roomTest : List (Bool × Said Body)
+  roomTest = roomTests z m s counts xy zs ms
+
+  counts-first : bodyOf z m s counts xy zs ms ≡ first (countTests s) (first (restTests z m s) (first roomTest (gives (bodyIn z m s))))
+  unfolding bodyOf
+  counts-first =
+      first-append (countTests s) (restTests z m s ++ roomTest) (gives (bodyIn z m s))
+      ∙ ap (first (countTests s)) (first-append (restTests z m s) roomTest (gives (bodyIn z m s)))
+
+  pub counts-refused : (r : Said Body) → Refuses (countTests s) r → r ≡ bodyOf z m s counts xy zs ms
+  counts-refused r h = sym (counts-first ∙ h (first (restTests z m s) (first roomTest (gives (bodyIn z m s)))))
+
+  module _ (c : Passes (countTests s)) where
+    pub rest-refused : (r : Said Body) → Refuses (restTests z m s) r → r ≡ bodyOf z m s counts xy zs ms
+    rest-refused r h = sym (counts-first ∙ (c (first (restTests z m s) (first roomTest (gives (bodyIn z m s)))) ∙ h (first roomTest (gives (bodyIn z m s)))))
+
+    module _ (p points : ℕ) (parts-are : p ≡ partsIn s) (points-are : points ≡ pointsIn s) (t : Passes (restTests z m s)) where
+      room-last : bodyOf z m s counts xy zs ms ≡ cond (hasRoom z m p points counts xy zs ms) (gives (bodyIn z m s)) (room p points)
+      room-last =
+          rw (parts-are, points-are)
+          (counts-first
+          ∙ (c (first (restTests z m s) (first roomTest (gives (bodyIn z m s)))) ∙ t (first roomTest (gives (bodyIn z m s)))))
+
+      pub no-room : hasRoom z m p points counts xy zs ms ≡ false → room p points ≡ bodyOf z m s counts xy zs ms
+      no-room e = sym (room-last ∙ rw e)
+
+      pub whole-body : hasRoom z m p points counts xy zs ms ≡ true → gives (bodyIn z m s) ≡ bodyOf z m s counts xy zs ms
+      whole-body e = sym (room-last ∙ rw e)

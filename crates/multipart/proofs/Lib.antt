@@ -1,0 +1,10 @@
+-- The laws of this crate's definitions, as the code meets them.
+mod BodyLaws
+mod CountLaws
+pub mod Determined
+pub mod Examples
+mod PartLaws
+mod RestLaws
+mod StoreLaws
+pub mod TestLaws
+mod WalkLaws

@@ -1,0 +1,138 @@
+-- `multipart::read_rest` meets its contract: a refusal of the walk or of the room leaves the stores, and else they get what the definition has.
+use mathlib.Core.Path.{_≡_, refl, sym, ap, _∙_, subst}
+use mir.Syntax.{w32}
+use borrow.Author.Needs.{needs}
+use Rattle.format.specs.Said.{gives}
+use Rattle.format.proofs.SignLaws.{back}
+use Rattle.multipart.specs.declared.judge.Walk.{Walk}
+use Rattle.multipart.specs.declared.judge.Walk.the-variants.{On, Short, Size}
+use Rattle.multipart.specs.Walks.{RestWalk}
+use Rattle.multipart.proofs.BodyLaws.{rest-refused, no-room, whole-body}
+use Rattle.multipart.proofs.read_rest.Statement.{statement}
+use Rattle.multipart.proofs.read_rest.Tie as tie
+
+-- the start of the function, and what the walk found
+
+abbrev e1 : tie.After-judge-rest → tie.Start
+e1 c = c .before .before .before .before .before .before .before
+
+told : (c : tie.After-judge-rest) (r : Walk) → c .judge-rest .result ≡ r → RestWalk (e1 c .args .z) (e1 c .args .m) (e1 c .args .s .now) r
+told c r e = subst (λ (w : Walk). RestWalk (e1 c .args .z) (e1 c .args .m) (e1 c .args .s .now) w) e (c .judge-rest .ensures)
+
+on : (c : tie.After-known-told3) → RestWalk (e1 (c .before .before .before) .args .z) (e1 (c .before .before .before) .args .m) (e1 (c .before .before .before) .args .s .now) (On (c .before .points .given .0 .0))
+on c = told (c .before .before .before) (On (c .before .points .given .0 .0)) (c .before .points .given .1)
+
+le-i32-at-requires : tie.Need-le-i32-at-requires
+le-i32-at-requires c κs = search needs
+
+judge-rest-requires : tie.Need-judge-rest-requires
+judge-rest-requires c κs = search needs
+
+enum-known-at : tie.Need-enum-known-at
+enum-known-at c = search needs
+
+enum-known-at-2 : tie.Need-enum-known-at-2
+enum-known-at-2 c = search needs
+
+enum-known-points : tie.Need-enum-known-points
+enum-known-points c = search needs
+
+has-room-requires : tie.Need-has-room-requires
+has-room-requires c κs = search needs
+
+store-body-requires : tie.Need-store-body-requires
+store-body-requires c κs =
+    let p = c .before .before .before .before .before .before in
+    let n = p .before .before .before .before .le-i32-at in
+    let w = on p in
+    record {
+      parts-are = e1 (p .before .before .before) .pre .parts-are;
+      number-is = back w32 (n .result) (n .ok) ∙ n .ensures;
+      points-are = w .1 .0;
+      ends = w .1 .1;
+      room = sym (c .before .before .before .before .before .has-room .ensures) ∙ c .before .before .before .before .if1 .taken;
+    }
+
+returns : tie.Need-returns
+returns c =
+    let j = c .before .before .before in
+    record {
+      says = rest-refused (e1 j .args .z) (e1 j .args .m) (e1 j .args .s .now) _ _ _ _ (e1 j .pre .passes) _ (told j (Short (c .before .at .given .0 .0)) (c .before .at .given .1));
+      counts-are = refl;
+      xy-are = refl;
+      z-are = refl;
+      m-are = refl;
+    }
+
+returns-2 : tie.Need-returns-2
+returns-2 c =
+    let j = c .before .before .before in
+    record {
+      says = rest-refused (e1 j .args .z) (e1 j .args .m) (e1 j .args .s .now) _ _ _ _ (e1 j .pre .passes) _ (told j (Size (c .before .at2 .given .0 .0)) (c .before .at2 .given .1));
+      counts-are = refl;
+      xy-are = refl;
+      z-are = refl;
+      m-are = refl;
+    }
+
+same-length : tie.Need-same-length
+same-length c = search needs
+
+same-length-2 : tie.Need-same-length-2
+same-length-2 c = search needs
+
+same-length-3 : tie.Need-same-length-3
+same-length-3 c = search needs
+
+same-length-4 : tie.Need-same-length-4
+same-length-4 c = search needs
+
+returns-3 : tie.Need-returns-3
+returns-3 c =
+    let p = c .before .before .before .before .before .before .before .before .before .before .before .before .before .before .before in
+    let a = e1 (p .before .before .before) in
+    let w = on p in
+    let d = c .before .before .before .before .before .before .before .before .store-body .ensures in
+    record {
+      says =
+          ap gives (d .body-is)
+          ∙ whole-body (a .args .z) (a .args .m) (a .args .s .now) _ _ _ _ (a .pre .passes) _ _ (a .pre .parts-are) (w .1 .0) (w .0) (sym (c .before .before .before .before .before .before .before .before .before .before .before .before .before .before .has-room .ensures) ∙ c .before .before .before .before .before .before .before .before .before .before .before .before .before .if1 .taken);
+      counts-are = d .counts-are;
+      xy-are = d .xy-are;
+      z-are = d .z-are;
+      m-are = d .m-are;
+    }
+
+returns-4 : tie.Need-returns-4
+returns-4 c =
+    let p = c .before .before in
+    let a = e1 (p .before .before .before) in
+    let w = on p in
+    record {
+      says =
+          no-room (a .args .z) (a .args .m) (a .args .s .now) _ _ _ _ (a .pre .passes) _ _ (a .pre .parts-are) (w .1 .0) (w .0) (sym (c .before .has-room .ensures) ∙ c .if1 .left);
+      counts-are = refl;
+      xy-are = refl;
+      z-are = refl;
+      m-are = refl;
+    }
+
+pub read-rest-spec : {M : Type 1} → statement M
+read-rest-spec =
+    tie.close
+    (tie.spec
+    le-i32-at-requires
+    judge-rest-requires
+    enum-known-at
+    enum-known-at-2
+    enum-known-points
+    has-room-requires
+    store-body-requires
+    returns
+    returns-2
+    same-length
+    same-length-2
+    same-length-3
+    same-length-4
+    returns-3
+    returns-4)

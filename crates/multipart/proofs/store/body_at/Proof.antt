@@ -1,0 +1,74 @@
+-- `multipart::store::body_at` meets its contract: each field is read at its place, and all of them lie within the bytes.
+use mathlib.Core.Path.{_≡_, _∙_}
+use mathlib.Core.Bool.{cond}
+use Prim.Native.Nat.{_+_, _≤_}
+use native.Mathlib.Omega.{arith}
+use lib.ListN.{length}
+use Rattle.multipart.specs.Body.{mAt, bodyIn}
+use Rattle.multipart.specs.Walks.{endAfter}
+use Rattle.multipart.proofs.BodyLaws.{m-place, box-inside, z-range-inside, m-range-inside}
+use Rattle.multipart.proofs.store.body_at.Statement.{statement}
+use Rattle.multipart.proofs.store.body_at.Tie as tie
+
+inside : (c : tie.Start) → 40 ≤ length (c .args .s .now)
+inside c = box-inside (c .args .z) (c .args .m) (c .args .s .now) (c .args .points) (c .args .end) (c .pre .1) (c .pre .2) (c .pre .3)
+
+z-inside : (c : tie.Start) → c .args .end + cond (c .args .z) 16 0 ≤ length (c .args .s .now)
+z-inside c = z-range-inside (c .args .z) (c .args .m) (c .args .s .now) (c .args .points) (c .args .end) (c .pre .1) (c .pre .2) (c .pre .3)
+
+m-at : (c : tie.Start) → endAfter (c .args .z) (c .args .points) (c .args .end) ≡ mAt (c .args .z) (c .args .s .now)
+m-at c = m-place (c .args .z) (c .args .m) (c .args .s .now) (c .args .points) (c .args .end) (c .pre .1) (c .pre .2) (c .pre .3)
+
+m-inside : (c : tie.Start) → endAfter (c .args .z) (c .args .points) (c .args .end) + cond (c .args .m) 16 0 ≤ length (c .args .s .now)
+m-inside c = m-range-inside (c .args .z) (c .args .m) (c .args .s .now) (c .args .points) (c .args .end) (c .pre .1) (c .pre .2) (c .pre .3)
+
+end-after-requires : tie.Need-end-after-requires
+end-after-requires c κs = omega (arith, m-inside (c .before))
+
+le-f64-at-requires : tie.Need-le-f64-at-requires
+le-f64-at-requires c κs = omega (arith, inside (c .before .before))
+
+le-f64-at-requires-2 : tie.Need-le-f64-at-requires-2
+le-f64-at-requires-2 c κs = omega (arith, inside (c .before .before .before))
+
+le-f64-at-requires-3 : tie.Need-le-f64-at-requires-3
+le-f64-at-requires-3 c κs = omega (arith, inside (c .before .before .before .before))
+
+le-f64-at-requires-4 : tie.Need-le-f64-at-requires-4
+le-f64-at-requires-4 c κs = omega (arith, inside (c .before .before .before .before .before))
+
+range-at-requires : tie.Need-range-at-requires
+range-at-requires c κs = z-inside (c .before .before .before .before .before .before)
+
+range-at-requires-2 : tie.Need-range-at-requires-2
+range-at-requires-2 c κs = rw (c .before .before .before .before .before .end-after .ensures) (m-inside (c .before .before .before .before .before .before .before))
+
+returns : tie.Need-returns
+unfolding bodyIn
+returns c =
+    let a = c .before .before .before .before .before .before .before .before in
+    rw (
+      c .before .before .before .before .before .le-f64-at .ensures,
+      c .before .before .before .before .le-f64-at2 .ensures,
+      c .before .before .before .le-f64-at3 .ensures,
+      c .before .before .le-f64-at4 .ensures,
+      c .before .range-at .ensures,
+      c .range-at2 .ensures,
+      c .before .before .before .before .before .before .end-after .ensures ∙ m-at a,
+      a .pre .0,
+      a .pre .1,
+      a .pre .2,
+    )
+
+pub body-at-spec : {M : Type 1} → statement M
+body-at-spec =
+    tie.close
+    (tie.spec
+    end-after-requires
+    le-f64-at-requires
+    le-f64-at-requires-2
+    le-f64-at-requires-3
+    le-f64-at-requires-4
+    range-at-requires
+    range-at-requires-2
+    returns)

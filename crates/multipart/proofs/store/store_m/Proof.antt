@@ -1,0 +1,101 @@
+-- `multipart::store::store_m` meets its contract: the m values that are left to store complete the store at each turn.
+use mathlib.Core.Path.{_≡_, refl, sym, ap, _∙_}
+use mathlib.Core.List.{map}
+use Prim.Native.Nat.{_+_, _*_, _-_, _≤_}
+use native.Mathlib.Nat.{add-zero, sub-zero}
+use native.Mathlib.Omega.{arith}
+use lib.ListN.{length, length-set}
+use lib.Seq.{sets}
+use borrow.Author.Needs.{needs}
+use Rattle.format.specs.Numbers.{doublesAt}
+use Rattle.multipart.specs.Body.{raised}
+use Rattle.multipart.proofs.StoreLaws.{raised-turn, raised-end}
+use Rattle.multipart.proofs.store.store_m.Statement.{statement}
+use Rattle.multipart.proofs.store.store_m.Tie as tie
+
+abbrev Inv-loop : tie.InvT-loop
+Inv-loop s m n at ms₀ i₀ ms i =
+    (i ≤ n)
+    × (at + (16 + 8 * n) ≤ length s)
+    × (n ≤ length ms₀)
+    × (length ms ≡ length ms₀)
+    × (sets ms i (map raised (doublesAt (n - i) (at + 16 + 8 * i) s)) ≡ sets ms₀ 0 (map raised (doublesAt n (at + 16) s)))
+
+abbrev μ-loop : tie.MeasureT-loop
+μ-loop s m n at ms₀ i₀ ms i = n - i
+
+loop-holds : tie.Need-loop-holds Inv-loop μ-loop
+loop-holds c =
+    let p = c .before .before .before .pre in
+    (omega arith, rw (c .if1 .taken) at (p .0), rw (c .if1 .taken) at (p .1), refl, rw (sub-zero, add-zero))
+
+add-le-f64-at : tie.Need-add-le-f64-at Inv-loop μ-loop
+add-le-f64-at c = omega arith
+
+mul-le-f64-at : tie.Need-mul-le-f64-at Inv-loop μ-loop
+mul-le-f64-at c = omega arith
+
+add-le-f64-at-2 : tie.Need-add-le-f64-at-2 Inv-loop μ-loop
+add-le-f64-at-2 c = omega arith
+
+le-f64-at-requires : tie.Need-le-f64-at-requires Inv-loop μ-loop
+le-f64-at-requires c κs = omega arith
+
+raise-requires : tie.Need-raise-requires Inv-loop μ-loop
+raise-requires c κs = search needs
+
+mul-ms : tie.Need-mul-ms Inv-loop μ-loop
+mul-ms c = omega arith
+
+slice-write-ms : tie.Need-slice-write-ms Inv-loop μ-loop
+slice-write-ms c = omega arith
+
+add-i : tie.Need-add-i Inv-loop μ-loop
+add-i c = omega arith
+
+loop-less : tie.Need-loop-less Inv-loop μ-loop
+loop-less c = omega arith
+
+loop-again : tie.Need-loop-again Inv-loop μ-loop
+loop-again c =
+    let l = c .before .before .before .loop in
+    let a = c .before .before .before .before .before .before .before .args in (
+      omega arith,
+      l .inv .1,
+      l .inv .2,
+      simp length-set (l .inv .3),
+      rw (c .raise .ensures ∙ ap raised (c .before .le-f64-at .ensures)) (raised-turn (l .ms) (a .n) (a .at + 16) (l .i) (a .s .now) (c .before .before .loop-test .taken) ∙ l .inv .4),
+    )
+
+same-length : tie.Need-same-length Inv-loop μ-loop
+same-length c = omega arith
+
+returns : tie.Need-returns Inv-loop μ-loop
+returns c =
+    let l = c .before .loop in
+    let a = c .before .before .before .before .before .args in
+    rw (c .before .before .if1 .taken) (sym (raised-end (l .ms) (a .n) (a .at + 16) (l .i) (a .s .now) (c .loop-test .left)) ∙ l .inv .4)
+
+returns-2 : tie.Need-returns-2 Inv-loop μ-loop
+returns-2 c = rw (c .if1 .left)
+
+pub store-m-spec : {M : Type 1} → statement M
+store-m-spec =
+    tie.close
+    (tie.spec
+    Inv-loop
+    μ-loop
+    loop-holds
+    add-le-f64-at
+    mul-le-f64-at
+    add-le-f64-at-2
+    le-f64-at-requires
+    raise-requires
+    mul-ms
+    slice-write-ms
+    add-i
+    loop-less
+    loop-again
+    same-length
+    returns
+    returns-2)

@@ -1,0 +1,106 @@
+// The first walk over a body: which field is cut or wrong, and how many points are read. It stores nothing.
+ghost use mathlib.Core.Path.{_≡_};
+ghost use Prim.Native.Nat.{_+_, _*_, _≤_, _<_, _^_};
+ghost use lib.ListN.{length};
+ghost use Rattle.format.specs.Numbers.{leI32};
+ghost use Rattle.multipart.specs.Answers.{saidPart, partOf};
+ghost use Rattle.multipart.specs.Body.{partsIn};
+ghost use Rattle.multipart.specs.Parts.{startsAt};
+ghost use Rattle.multipart.specs.Walks.{endOf, endAfter, PartsWalk, MeasureWalk, RestWalk};
+use crate::PartAnswer;
+use crate::part_count;
+
+// What a walk over fields finds: a number, where all is well, or the place of the field that is cut or wrong.
+pub enum Walk {
+    On(usize),
+    Short(usize),
+    Size(usize),
+}
+
+// The points of the part whose start stands at a place: so many starts follow it, and the last part ends at n.
+pub(crate) fn part_at(s: &[u8], start: usize, follow: usize, n: i32) -> PartAnswer
+    requires { ⌜ start + 4 + 4 * follow ≤ length (now s) ⌝ }
+    ensures { λ r. ⌜ saidPart r ≡ partOf (leI32 start (now (s .entry))) (endOf (startsAt follow (start + 4) (now (s .entry))) n) ⌝ }
+{
+    let from = fields::le_i32_at(s, start);
+    if 0 < follow {
+        let to = fields::le_i32_at(s, start + 4);
+        part_count(from, to)
+    } else {
+        part_count(from, n)
+    }
+}
+
+// The p parts in turn, whose starts stand from 40 on: how many points they have. The pairs of a part stand where those of the part before it end.
+fn judge_parts(s: &[u8], p: usize, n: i32) -> Walk
+    requires { ⌜ 40 + 4 * p ≤ length (now s) ⌝ }
+    ensures { λ r. ⌜ PartsWalk p n (now (s .entry)) r ⌝ }
+{
+    let mut left = p;
+    let mut start: usize = 40;
+    let mut at = 40 + 4 * p;
+    let mut points: usize = 0;
+    while 0 < left {
+        left -= 1;
+        match part_at(s, start, left, n) {
+            PartAnswer::Size => return Walk::Size(start),
+            PartAnswer::Count(k) => {
+                let count = k as usize;
+                if (s.len() - at) / 16 < count {
+                    return Walk::Short(at + (s.len() - at) / 8 * 8);
+                }
+                at += 16 * count;
+                points += count;
+            }
+        }
+        start += 4;
+    }
+    Walk::On(points)
+}
+
+// Where a range and n values from a place on end; at that place, where the flag is not set.
+pub(crate) fn end_after(flag: bool, n: usize, at: usize) -> usize
+    requires { ⌜ endAfter flag n at < 2 ^ 64 ⌝ }
+    ensures { λ r. ⌜ r ≡ endAfter flag n at ⌝ }
+{
+    if flag { at + 16 + 8 * n } else { at }
+}
+
+// A range and n values from a place on, where the flag is set: the place after them.
+fn judge_measure(s: &[u8], flag: bool, n: usize, at: usize) -> Walk
+    requires { ⌜ (at ≤ length (now s)) × (n ≤ length (now s)) ⌝ }
+    ensures { λ r. ⌜ MeasureWalk flag n at (now (s .entry)) r ⌝ }
+{
+    if flag {
+        let whole = (s.len() - at) / 8;
+        if whole < 2 + n {
+            return Walk::Short(at + whole * 8);
+        }
+        return Walk::On(at + 16 + 8 * n);
+    }
+    Walk::On(at)
+}
+
+// All that follows the counts: how many points are read.
+pub(crate) fn judge_rest(s: &[u8], z: bool, m: bool, p: usize, n: i32) -> Walk
+    requires { ⌜ (40 ≤ length (now s)) × (p ≡ partsIn (now s)) × (n ≡ leI32 36 (now s)) ⌝ }
+    ensures { λ r. ⌜ RestWalk z m (now (s .entry)) r ⌝ }
+{
+    let whole = (s.len() - 40) / 4;
+    if whole < p {
+        return Walk::Short(40 + whole * 4);
+    }
+    match judge_parts(s, p, n) {
+        Walk::Short(at) => Walk::Short(at),
+        Walk::Size(at) => Walk::Size(at),
+        Walk::On(points) => match judge_measure(s, z, points, 40 + 4 * p + 16 * points) {
+            Walk::Short(at) => Walk::Short(at),
+            Walk::Size(at) => Walk::Size(at),
+            Walk::On(end) => match judge_measure(s, m, points, end) {
+                Walk::Short(at) => Walk::Short(at),
+                Walk::Size(at) => Walk::Size(at),
+                Walk::On(_) => Walk::On(points),
+            },
+        },
+    }
+}
