@@ -1,0 +1,2 @@
+-- Document 01's "Reading a record".
+pub mod Reading
