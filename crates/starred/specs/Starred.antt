@@ -1,18 +1,21 @@
 -- Document 01's starred examples: what the definitions give beside what the document says, a row each, and one statement over all of them.
 use mathlib.Core.Path.{_≡_}
 use mathlib.Core.Bool.{Bool, true, false, cond}
-use mathlib.Core.List.{List, [], _∷_, _++_, map}
+use mathlib.Core.List.{List, [], _∷_, _++_, map, flatten}
 use mathlib.Core.Option.{none}
-use Prim.Native.Nat.{ℕ}
-use lib.Ieee.{Float, binary64, ofInt}
+use Prim.Native.Nat.{ℕ, zero, suc, _+_}
+use lib.Ieee.{Float, binary64, ofInt, toBits}
 use lib.IntN.{ℤ, pos}
-use lib.ListN.{take}
+use lib.ListN.{length, take, replicate}
 use Rattle.format.specs.Encoding.{Box, Entry, headerBytes, entriesFrom}
 use Rattle.format.specs.Lengths.{parts, contentWords}
+use Rattle.format.specs.Numbers.{little, double}
 use Rattle.format.specs.Said.{Said, gives, refuses}
 use Rattle.format.specs.Shapes.{Shape, parted}
 use Rattle.header.specs.declared.Header.{Header}
 use Rattle.header.specs.Reading.{headerOf}
+use Rattle.multipart.specs.declared.Body.{Body}
+use Rattle.multipart.specs.Body.{countsIn, xyIn, bodyOf}
 use Rattle.rings.specs.Answers.{closedOf, turningOf}
 use Rattle.rings.specs.Points.{Turning, outer, inner}
 
@@ -58,6 +61,27 @@ abbrev entries : List Entry → List ℤ
 entries [] = []
 entries (e ∷ es) = entry e ++ entries es
 
+-- ---- bodies
+
+-- so many pairs, whose doubles have the bits 1, 2, 3 and so on, here from a number on
+abbrev pairs : ℕ → ℕ → List ℕ
+pairs zero from = []
+pairs (suc k) from = double from ++ (double (from + 1) ++ pairs k (from + 2))
+
+-- a body with these starts and this n, by their bits, and so many pairs
+abbrev body : List ℕ → ℕ → ℕ → List ℕ
+body starts n k = replicate 32 0 ++ (little (length starts) ++ (little n ++ (flatten (map little starts) ++ pairs k 1)))
+
+abbrev bitsOf : Float → ℤ
+bitsOf x = pos (toBits binary64 x)
+
+-- read without z and m into stores with room for 4 parts and 8 points: the counts, or the counts and the bits of the pairs
+abbrev readCounts : List ℕ → List ℤ
+readCounts s = shown (λ (b : Body). map pos (countsIn s)) (bodyOf false false s 4 16 0 0)
+
+abbrev readPairs : List ℕ → List ℤ
+readPairs s = shown (λ (b : Body). map pos (countsIn s) ++ map bitsOf (xyIn s)) (bodyOf false false s 4 16 0 0)
+
 -- ---- rings
 
 -- (0,0), (0,1), (1,1), (1,0), (0,0), and reversed
@@ -94,6 +118,15 @@ rows =
     ∷ record { given = entries (entriesFrom 50 (line ∷ line ∷ [])); document = pos 50 ∷ pos 40 ∷ pos 94 ∷ pos 40 ∷ [] }
     -- PolygonZ p=1, n=5: 92 or 120 words
     ∷ record { given = pos (contentWords parts true false 1 5) ∷ pos (contentWords parts true true 1 5) ∷ []; document = pos 92 ∷ pos 120 ∷ [] }
+    -- n=5: starts 0, 2 give 2 and 3 points; start 3 gives one part of 2, the first two pairs; start -2 reads 7
+    ∷ record { given = readCounts (body (0 ∷ 2 ∷ []) 5 5); document = pos 0 ∷ pos 2 ∷ pos 3 ∷ [] }
+    ∷ record { given = readPairs (body (3 ∷ []) 5 5); document = pos 0 ∷ pos 2 ∷ pos 1 ∷ pos 2 ∷ pos 3 ∷ pos 4 ∷ [] }
+    ∷ record { given = readCounts (body (0xffff_fffe ∷ []) 5 7); document = pos 0 ∷ pos 7 ∷ [] }
+    -- starts 0, 4, 2 with n=5: 3 at 44, or 1 if part 0 is cut, here inside its last pair, at 100
+    ∷ record { given = readCounts (body (0 ∷ 4 ∷ 2 ∷ []) 5 4); document = pos 3 ∷ pos 44 ∷ [] }
+    ∷ record { given = readCounts (body (0 ∷ 4 ∷ 2 ∷ []) 5 3); document = pos 1 ∷ pos 100 ∷ [] }
+    -- start -1, n=2,147,483,647: 3 at 40
+    ∷ record { given = readCounts (body (0xffff_ffff ∷ []) 2147483647 0); document = pos 3 ∷ pos 40 ∷ [] }
     -- the square is outer; reversed, inner; an empty run is not closed, and outer
     ∷ record { given = shown isInner (turningOf square); document = pos 0 ∷ pos 0 ∷ [] }
     ∷ record { given = shown isInner (turningOf reversed); document = pos 0 ∷ pos 1 ∷ [] }
