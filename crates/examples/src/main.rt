@@ -13,6 +13,7 @@ use header::HeaderAnswer;
 use header::HeaderBytes;
 use header::Wrote;
 use libc::STDOUT_FILENO;
+use multipart::BodyAnswer;
 use rings::CloseAnswer;
 use rings::ClosedAnswer;
 use rings::RingAnswer;
@@ -24,6 +25,14 @@ fn say(text: &[u8]) {
 fn number(n: u64) {
     say(b" ");
     io::print_decimal(STDOUT_FILENO, n);
+}
+
+fn count(n: usize) {
+    number(n as u64);
+}
+
+fn small(n: u32) {
+    number(n as u64);
 }
 
 fn signed(z: i32) {
@@ -197,6 +206,81 @@ fn show_kind(code: i32) {
     end();
 }
 
+// ---- bodies
+
+// A body of the first n bytes, read without z and without m: the parts, the points and the first two counts.
+fn show_body(s: &[u8], n: usize) {
+    let mut counts = [9u32; 4];
+    let mut xy = [0.5; 16];
+    let mut none = [0.0; 1];
+    let mut more = [0.0; 1];
+    if s.len() < n {
+        return;
+    }
+    match multipart::read_body(&s[0..n], false, false, &mut counts, &mut xy, &mut none, &mut more) {
+        BodyAnswer::Whole(b) => {
+            say(b" 0");
+            count(b.parts);
+            count(b.points);
+            small(counts[0]);
+            small(counts[1]);
+        }
+        BodyAnswer::Short(at) => {
+            say(b" 1");
+            number(at as u64);
+        }
+        BodyAnswer::Size(at) => {
+            say(b" 3");
+            number(at as u64);
+        }
+        BodyAnswer::Room(parts, points) => {
+            say(b" 6");
+            number(parts as u64);
+            number(points as u64);
+        }
+    }
+    end();
+}
+
+// p, n and three starts in front of zeros, by their lowest bytes; 255 fills a start that is negative.
+fn body_of(p: u8, n: u8, a: u8, b: u8, c: u8) -> [u8; 200] {
+    let mut s = [0u8; 200];
+    s[32] = p;
+    s[36] = n;
+    s[40] = a;
+    s[44] = b;
+    s[48] = c;
+    if 127 < a {
+        s[41] = 255;
+        s[42] = 255;
+        s[43] = 255;
+    }
+    s
+}
+
+fn bodies() {
+    say(b"n=5, starts 0, 2:");
+    show_body(&body_of(2, 5, 0, 2, 0), 128);
+    say(b"n=5, start 3:");
+    show_body(&body_of(1, 5, 3, 0, 0), 76);
+    say(b"n=5, start -2:");
+    show_body(&body_of(1, 5, 254, 0, 0), 156);
+    say(b"n=5, no part:");
+    show_body(&body_of(0, 5, 0, 0, 0), 40);
+    say(b"n=5, starts 0, 4, 2:");
+    show_body(&body_of(3, 5, 0, 4, 2), 116);
+    say(b"the same, part 0 cut:");
+    show_body(&body_of(3, 5, 0, 4, 2), 115);
+    say(b"5 parts, 4 in the store:");
+    show_body(&body_of(5, 0, 0, 0, 0), 60);
+    let mut long = body_of(1, 255, 255, 0, 0);
+    long[37] = 255;
+    long[38] = 255;
+    long[39] = 127;
+    say(b"n=2147483647, start -1:");
+    show_body(&long, 200);
+}
+
 // ---- rings
 
 fn show_ring(xy: &[f64]) {
@@ -252,5 +336,6 @@ fn main() {
     show_kind(31);
     show_kind(2);
     show_kind(-1);
+    bodies();
     ring_examples();
 }
