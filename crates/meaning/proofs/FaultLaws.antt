@@ -1,0 +1,81 @@
+-- A record without fault, by what its rules say.
+use mathlib.Core.Path.{_≡_}
+use mathlib.Core.Bool.{_&&_}
+use mathlib.Core.List.{List, _++_}
+use Prim.Native.Nat.{ℕ, suc, _+_, _*_, _≤_}
+use native.Mathlib.Omega.{arith}
+use lib.Dec.{leb, eqb}
+use lib.ListN.{length}
+use borrow.Author.Tests.{le-leb, leb-true, lt-ltb, ltb-true, eq-eqb, eqb-true}
+use Rattle.format.specs.Encoding.{Held}
+use Rattle.rules.specs.Rules.{Taken, bigAt, littleAt, held, wordsOf, partsOf, pointsOf, headRules, shapeRules, recordFault}
+use Rattle.meaning.proofs.Shaped.{Met}
+use Rattle.meaning.proofs.Tests.{and-true, _then_, pass, no-fault}
+
+-- the record of number k at `at`, of which l is what begins with it and x what begins with its entry
+pub record Fine (t : Taken) (l x : List ℕ) (at k : ℕ) : Type 0 where
+  pub header : 8 ≤ length l
+  pub number : bigAt 0 l ≡ k
+  pub number-held : Held k
+  pub words-held : Held (wordsOf l)
+  pub words-two : 2 ≤ wordsOf l
+  pub entry : 8 ≤ length x
+  pub offset-held : Held (bigAt 0 x)
+  pub offset : 2 * bigAt 0 x ≡ at
+  pub extent : bigAt 4 x ≡ wordsOf l
+  pub code : littleAt 8 l ≡ t .kind .code
+  pub parts-held : Held (partsOf (t .form) l)
+  pub points-held : Held (pointsOf (t .form) l)
+  pub met : Met t l
+
+module _ (t : Taken) (l x : List ℕ) (at k : ℕ) where
+  pub fine : recordFault t l x at k ≡ 0 → Fine t l x at k
+  unfolding recordFault
+  fine e =
+      let not : (r : ℕ) → suc r ≡ 0 → ⊥ = λ r z. omega arith in
+      let p = pass (headRules t l x at k ++ shapeRules t l) (not 8 then not 9 then not 10 then not 11 then not 12 then not 13 then not 14 then not 15 then tt) e in
+      let p9 = and-true (leb 8 (length l) && eqb (bigAt 0 l) k) (held k) (p .0) in
+      let p9′ = and-true (leb 8 (length l)) (eqb (bigAt 0 l) k) (p9 .0) in
+      let p10 = and-true (held (wordsOf l) && leb 2 (wordsOf l)) (leb (8 + 2 * wordsOf l) (length l)) (p .1 .0) in
+      let p10′ = and-true (held (wordsOf l)) (leb 2 (wordsOf l)) (p10 .0) in
+      let p11 = and-true (leb 8 (length x) && held (bigAt 0 x) && eqb (2 * bigAt 0 x) at) (eqb (bigAt 4 x) (wordsOf l)) (p .1 .1 .0) in
+      let p11′ = and-true (leb 8 (length x) && held (bigAt 0 x)) (eqb (2 * bigAt 0 x) at) (p11 .0) in
+      let p11″ = and-true (leb 8 (length x)) (held (bigAt 0 x)) (p11′ .0) in
+      let p13 = and-true (held (partsOf (t .form) l) && held (pointsOf (t .form) l)) _ (p .1 .1 .1 .1 .0) in
+      let p13′ = and-true (held (partsOf (t .form) l)) (held (pointsOf (t .form) l)) (p13 .0) in
+      record {
+        header = leb-true _ _ (p9′ .0);
+        number = eqb-true _ _ (p9′ .1);
+        number-held = ltb-true _ _ (p9 .1);
+        words-held = ltb-true _ _ (p10′ .0);
+        words-two = leb-true _ _ (p10′ .1);
+        entry = leb-true _ _ (p11″ .0);
+        offset-held = ltb-true _ _ (p11″ .1);
+        offset = eqb-true _ _ (p11′ .1);
+        extent = eqb-true _ _ (p11 .1);
+        code = eqb-true _ _ (p .1 .1 .1 .0);
+        parts-held = ltb-true _ _ (p13′ .0);
+        points-held = ltb-true _ _ (p13′ .1);
+        met =
+            record {
+              within = leb-true _ _ (p10 .1);
+              p13 = p .1 .1 .1 .1 .0;
+              p14 = p .1 .1 .1 .1 .1 .0;
+              p15 = p .1 .1 .1 .1 .1 .1 .0;
+              p16 = p .1 .1 .1 .1 .1 .1 .1 .0;
+            };
+      }
+
+  pub faultless : Fine t l x at k → recordFault t l x at k ≡ 0
+  unfolding recordFault
+  faultless f =
+      no-fault (headRules t l x at k ++ shapeRules t l)
+      ((rw (le-leb _ _ (f .header), eq-eqb _ _ (f .number), lt-ltb _ _ (f .number-held)))
+      then (rw (lt-ltb _ _ (f .words-held), le-leb _ _ (f .words-two), le-leb _ _ (f .met .within)))
+      then (rw (le-leb _ _ (f .entry), lt-ltb _ _ (f .offset-held), eq-eqb _ _ (f .offset), eq-eqb _ _ (f .extent)))
+      then eq-eqb _ _ (f .code)
+      then f .met .p13
+      then f .met .p14
+      then f .met .p15
+      then f .met .p16
+      then tt)

@@ -1,0 +1,64 @@
+-- Runs of numbers of one width in the bytes: read and written.
+use mathlib.Core.Path.{_≡_, refl, ap, _∙_}
+use mathlib.Core.List.{List, [], _∷_, _++_, map, flatten, append-assoc}
+use Prim.Native.Nat.{ℕ, zero, suc, _+_, _*_, _^_, _≤_, _<_}
+use native.Mathlib.Nat.{mul-suc, add-zero}
+use native.Mathlib.Omega.{arith}
+use lib.ListN.{length, drop, getD, length-append}
+use Rattle.format.specs.Bytes.{le, leBytes, field}
+use Rattle.format.proofs.ByteLaws.{AllBytes, length-leBytes}
+use Rattle.meaning.proofs.Places.{Stands, join, front, back, le-back, le-stands}
+
+-- n numbers of w bytes from a place on
+unfoldable pub numbers : ℕ → ℕ → ℕ → List ℕ → List ℕ
+numbers w zero at s = []
+numbers w (suc n) at s = le (field w at s) ∷ numbers w n (at + w) s
+
+-- and the bytes of numbers
+abbrev pub run : ℕ → List ℕ → List ℕ
+run w ds = flatten (map (leBytes w) ds)
+
+abbrev pub Fit : ℕ → List ℕ → Type 0
+Fit w [] = Unit {0}
+Fit w (d ∷ ds) = (d < 2 ^ (8 * w)) × Fit w ds
+
+pub length-numbers : (w n at : ℕ) (s : List ℕ) → length (numbers w n at s) ≡ n
+unfolding numbers
+length-numbers w zero at s = refl
+length-numbers w (suc n) at s = ap suc (length-numbers w n (at + w) s)
+
+pub length-run : (w : ℕ) (ds : List ℕ) → length (run w ds) ≡ w * length ds
+unfolding flatten
+length-run w [] = omega arith
+length-run w (d ∷ ds) = rw (length-append, length-leBytes, length-run w ds, mul-suc) (omega arith)
+
+pub run-append : (w : ℕ) (a b : List ℕ) → run w (a ++ b) ≡ run w a ++ run w b
+unfolding flatten
+run-append w [] b = refl
+run-append w (d ∷ a) b = rw (run-append w a b, append-assoc)
+
+-- what was read is written
+pub run-stands : (w n at : ℕ) (s : List ℕ) → AllBytes s → at + w * n ≤ length s → Stands at (run w (numbers w n at s)) s
+unfolding flatten numbers
+run-stands w zero at s b h = record { here = ap (λ (a : ℕ). drop a s) (add-zero at) }
+run-stands w (suc n) at s b h =
+    let k : at + (w * n + w) ≤ length s = rw mul-suc at h in
+    join at w (leBytes w (le (field w at s))) (run w (numbers w n (at + w) s)) s (length-leBytes w _) (le-stands w at s b (omega arith))
+    (run-stands w n (at + w) s b (omega arith))
+
+-- and what was written is read
+pub numbers-back : (w at : ℕ) (ds s : List ℕ) → Fit w ds → Stands at (run w ds) s → numbers w (length ds) at s ≡ ds
+unfolding flatten numbers
+numbers-back w at [] s f p = refl
+numbers-back w at (d ∷ ds) s f p =
+    let h = le-back w d at s (f .0) (front at w (leBytes w d) (run w ds) s (length-leBytes w d) p) in
+    let t = numbers-back w (at + w) ds s (f .1) (back at w (leBytes w d) (run w ds) s (length-leBytes w d) p) in
+    λ i. h i ∷ t i
+
+-- number i
+pub number-at : (w n at : ℕ) (s : List ℕ) (i : ℕ) → i < n → getD (numbers w n at s) i 0 ≡ le (field w (at + w * i) s)
+unfolding numbers
+number-at w zero at s i h = absurd (omega arith)
+number-at w (suc n) at s zero h = ap (λ (a : ℕ). le (field w a s)) (omega arith)
+number-at w (suc n) at s (suc i) h =
+    number-at w n (at + w) s i (omega arith) ∙ ap (λ (a : ℕ). le (field w a s)) (omega (arith, mul-suc w i))

@@ -1,0 +1,108 @@
+-- The walk passes over the records of well-formed shapes, and counts them; and no two lists of such shapes have the same records.
+use mathlib.Core.Path.{_≡_, refl, sym, ap, ap₂, _∙_}
+use mathlib.Core.List.{List, [], _∷_, _++_, flatten, append-assoc}
+use Prim.Native.Nat.{ℕ, suc, _+_, _*_, _<_}
+use native.Mathlib.Nat.{add-zero}
+use native.Mathlib.Omega.{arith}
+use lib.ListN.{length, drop, length-append}
+use lib.Seq.{drop-at}
+use Rattle.format.specs.Encoding.{shapeWords, twoBig, recordBytes, recordsFrom, entriesFrom, endFrom, HeldFrom}
+use Rattle.format.specs.Shapes.{Shape, OfKind, partsIn, pointsIn}
+use Rattle.rules.specs.Meaning.{AllWellFormed, allParts, allPoints}
+use Rattle.rules.specs.Rules.{Taken, Counts, wordsOf, size, recordFault, orOn, walkFrom}
+use Rattle.meaning.proofs.Decode.{shapeAt}
+use Rattle.meaning.proofs.FaultLaws.{Fine, faultless}
+use Rattle.meaning.proofs.Forms.{Back}
+use Rattle.meaning.proofs.Places.{in-front}
+use Rattle.meaning.proofs.Record.{Encodable, length-two, length-record, words-read, read-back, fine-record}
+use Rattle.meaning.proofs.Sizes.{entriesBytes}
+use Rattle.meaning.proofs.Table.{Known}
+use Rattle.meaning.proofs.WalkLaws.{next, walk-record}
+
+-- the counts behind one shape, and behind all of them
+abbrev and-one : Counts → Shape → Counts
+and-one c s = record { records = c .records + 1; parts = c .parts + partsIn s; points = c .points + pointsIn s }
+
+abbrev pub plus : Counts → List Shape → Counts
+plus c ss = record { records = c .records + length ss; parts = c .parts + allParts ss; points = c .points + allPoints ss }
+
+one-plus : (c : Counts) (s : Shape) (ss : List Shape) → plus (and-one c s) ss ≡ plus c (s ∷ ss)
+one-plus c s ss =
+    let records : c .records + 1 + length ss ≡ c .records + suc (length ss) = omega arith in
+    let parts : c .parts + partsIn s + allParts ss ≡ c .parts + (partsIn s + allParts ss) = omega arith in
+    let points : c .points + pointsIn s + allPoints ss ≡ c .points + (pointsIn s + allPoints ss) = omega arith in
+    λ i. record { records = records i; parts = parts i; points = points i }
+
+module _ (t : Taken) (known : Known t) where
+  some-bytes : (s : Shape) (n : ℕ) (r : List ℕ) → OfKind (t .kind) s → 0 < length (recordBytes (t .kind) n s ++ r)
+  some-bytes s n r o = omega (arith, length-record (t .kind) n s o, length-append (recordBytes (t .kind) n s) r)
+
+  -- one record, with anything behind it
+  module _ (s : Shape) (n w : ℕ) (g : Encodable (t .kind) n w s) (r y : List ℕ) where
+    abbrev l : List ℕ
+    l = recordBytes (t .kind) n s ++ r
+
+    abbrev x : List ℕ
+    x = twoBig w (shapeWords s) ++ y
+
+    backed : Back t l s
+    backed = read-back t known l x w n s g (in-front (recordBytes (t .kind) n s) r) (in-front (twoBig w (shapeWords s)) y)
+
+    unfaulted : Fine t l x (2 * w) n
+    unfaulted = fine-record t known l x w n s g (in-front (recordBytes (t .kind) n s) r) (in-front (twoBig w (shapeWords s)) y)
+
+    words : wordsOf l ≡ shapeWords s
+    words = words-read t known l x w n s g (in-front (recordBytes (t .kind) n s) r) (in-front (twoBig w (shapeWords s)) y)
+
+    behind : drop (size l) l ≡ r
+    behind = drop-at (recordBytes (t .kind) n s) r (size l) (length-record (t .kind) n s (g .of-kind) ∙ ap (λ (i : ℕ). 8 + 2 * i) (sym words))
+
+    behind-entry : drop 8 x ≡ y
+    behind-entry = drop-at (twoBig w (shapeWords s)) y 8 (length-two w (shapeWords s))
+
+    -- the walk goes on behind it
+    skip : (c : Counts) → n ≡ c .records + 1 → walkFrom t l x (2 * w) c ≡ walkFrom t r y (2 * (w + (4 + shapeWords s))) (and-one c s)
+    skip c e =
+        let place : 2 * w + size l ≡ 2 * (w + (4 + shapeWords s)) = omega (arith, words) in
+        let passed : recordFault t l x (2 * w) (c .records + 1) ≡ 0 = rw (← e) (faultless t l x (2 * w) n unfaulted) in
+        let counts : next t l c ≡ and-one c s = λ i. record { records = c .records + 1; parts = c .parts + backed .parts i; points = c .points + backed .points i } in
+        walk-record t l x (2 * w) c (some-bytes s n r (g .of-kind))
+        ∙ (ap (λ (f : ℕ). orOn f (c .records + 1) (walkFrom t (drop (size l) l) (drop 8 x) (2 * w + size l) (next t l c))) passed
+        ∙ (λ i. walkFrom t (behind i) (behind-entry i) (place i) (counts i)))
+
+  first-of : (s : Shape) (ss : List Shape) (n w : ℕ) → AllWellFormed (t .kind) (s ∷ ss) → HeldFrom n w (s ∷ ss) → Encodable (t .kind) n w s
+  first-of s ss n w f h =
+      record { of-kind = f .0; well = f .1; number-held = h .0; word-held = h .1; words-held = h .2; parts-held = h .3; points-held = h .4 }
+
+  pub skips : (ss : List Shape) (w : ℕ) (c : Counts) (rest left : List ℕ) → AllWellFormed (t .kind) ss → HeldFrom (c .records + 1) w ss
+      → walkFrom t (recordsFrom (t .kind) (c .records + 1) ss ++ rest) (entriesBytes w ss ++ left) (2 * w) c
+      ≡ walkFrom t rest left (2 * endFrom w ss) (plus c ss)
+  unfolding recordsFrom entriesFrom endFrom flatten
+  skips [] w c rest left f h = simp add-zero
+  skips (s ∷ ss) w c rest left f h =
+      let n = c .records + 1 in
+      let v = w + (4 + shapeWords s) in
+      let r : List ℕ = recordsFrom (t .kind) (n + 1) ss in
+      let y : List ℕ = entriesBytes v ss in
+      ap₂ (λ (a b : List ℕ). walkFrom t a b (2 * w) c) (append-assoc (recordBytes (t .kind) n s) r rest) (append-assoc (twoBig w (shapeWords s)) y left)
+      ∙ (skip s n w (first-of s ss n w f h) (r ++ rest) (y ++ left) c refl
+      ∙ (skips ss v (and-one c s) rest left (f .2) (h .5)
+      ∙ ap (walkFrom t rest left (2 * endFrom v ss)) (one-plus c s ss)))
+
+  -- ---- no two lists
+
+  pub one-list : (ss ss′ : List Shape) (n w w′ : ℕ) → AllWellFormed (t .kind) ss → AllWellFormed (t .kind) ss′ → HeldFrom n w ss → HeldFrom n w′ ss′
+      → recordsFrom (t .kind) n ss ≡ recordsFrom (t .kind) n ss′ → ss ≡ ss′
+  unfolding recordsFrom
+  one-list [] [] n w w′ f f′ h h′ e = refl
+  one-list [] (s ∷ ss) n w w′ f f′ h h′ e = absurd (omega (arith, ap length e, some-bytes s n (recordsFrom (t .kind) (n + 1) ss) (f′ .0)))
+  one-list (s ∷ ss) [] n w w′ f f′ h h′ e = absurd (omega (arith, ap length e, some-bytes s n (recordsFrom (t .kind) (n + 1) ss) (f .0)))
+  one-list (s ∷ ss) (s′ ∷ ss′) n w w′ f f′ h h′ e =
+      let r = recordsFrom (t .kind) (n + 1) ss in
+      let r′ = recordsFrom (t .kind) (n + 1) ss′ in
+      let g = first-of s ss n w f h in
+      let g′ = first-of s′ ss′ n w′ f′ h′ in
+      let head : s ≡ s′ = sym (backed s n w g r [] .same) ∙ (ap (shapeAt (t .kind) (t .form)) e ∙ backed s′ n w′ g′ r′ [] .same) in
+      let tail : r ≡ r′ = sym (behind s n w g r []) ∙ (ap (λ (q : List ℕ). drop (size q) q) e ∙ behind s′ n w′ g′ r′ []) in
+      let more : ss ≡ ss′ = one-list ss ss′ (n + 1) (w + (4 + shapeWords s)) (w′ + (4 + shapeWords s′)) (f .2) (f′ .2) (h .5) (h′ .5) tail in
+      λ i. head i ∷ more i
