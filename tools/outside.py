@@ -1,0 +1,120 @@
+#!/usr/bin/env python3
+"""Has GDAL, shapelib and pyshp write pairs of every kind that each can write, into a folder.
+
+    tools/outside.py FOLDER
+
+Needs Debian's gdal-bin, libshp2 and python3-pyshp; run it with the system's python3. The files are not kept in the repository: what the checker
+says of them stands in docs/OUTSIDE.md.
+"""
+import ctypes
+import json
+import os
+import subprocess
+import sys
+
+LINE = [[0.0, 0.0], [1.0, 1.0], [2.0, 0.0]]
+SECOND = [[5.0, 5.0], [6.0, 6.0]]
+RING = [[0.0, 0.0], [0.0, 1.0], [1.0, 1.0], [1.0, 0.0], [0.0, 0.0]]
+HOLE = [[0.2, 0.2], [0.4, 0.2], [0.4, 0.4], [0.2, 0.4], [0.2, 0.2]]
+
+
+def run(*words):
+    subprocess.run(words, check=True, timeout=60, stdout=subprocess.DEVNULL, stderr=subprocess.DEVNULL)
+
+
+def gdal(folder):
+    """One layer for each kind, from WKT in a CSV file."""
+    wkt = {
+        "point": "POINT (1 2)",
+        "pointm": "POINT M (1 2 4)",
+        "pointz": "POINT Z (1 2 3)",
+        "pointzm": "POINT ZM (1 2 3 4)",
+        "polyline": "MULTILINESTRING ((0 0,1 1,2 0),(5 5,6 6))",
+        "polylinem": "MULTILINESTRING M ((0 0 1,1 1 2,2 0 3),(5 5 4,6 6 5))",
+        "polylinez": "MULTILINESTRING Z ((0 0 1,1 1 2,2 0 3),(5 5 4,6 6 5))",
+        "polylinezm": "MULTILINESTRING ZM ((0 0 1 9,1 1 2 8,2 0 3 7),(5 5 4 6,6 6 5 5))",
+        "polygon": "POLYGON ((0 0,0 1,1 1,1 0,0 0),(0.2 0.2,0.4 0.2,0.4 0.4,0.2 0.4,0.2 0.2))",
+        "polygonm": "POLYGON M ((0 0 1,0 1 1,1 1 1,1 0 1,0 0 1))",
+        "polygonz": "POLYGON Z ((0 0 1,0 1 1,1 1 1,1 0 1,0 0 1))",
+        "polygonzm": "POLYGON ZM ((0 0 1 2,0 1 1 2,1 1 1 2,1 0 1 2,0 0 1 2))",
+    }
+    for name, text in wkt.items():
+        source = os.path.join(folder, name + ".csv")
+        with open(source, "w") as f:
+            f.write('WKT,name\n"%s",a\n"%s",b\n' % (text, text))
+        run("ogr2ogr", "-f", "ESRI Shapefile", os.path.join(folder, "gdal_%s.shp" % name), source, "-oo", "KEEP_GEOM_COLUMNS=NO", "-lco", "SHPT=" + name.upper().replace("POLYLINE", "ARC"))
+        os.remove(source)
+    # a record whose geometry is missing, and no record at all
+    source = os.path.join(folder, "some.geojson")
+    shapes = [{"type": "Feature", "properties": {"n": 1}, "geometry": {"type": "LineString", "coordinates": LINE}},
+              {"type": "Feature", "properties": {"n": 2}, "geometry": None}]
+    for name, features in (("with_null", shapes), ("only", shapes[:1])):
+        with open(source, "w") as f:
+            json.dump({"type": "FeatureCollection", "features": features}, f)
+        run("ogr2ogr", "-f", "ESRI Shapefile", os.path.join(folder, "gdal_%s.shp" % name), source)
+    run("ogr2ogr", "-f", "ESRI Shapefile", os.path.join(folder, "gdal_empty.shp"), source, "-where", "n > 5")
+    os.remove(source)
+
+
+def shapelib(folder):
+    """The C library itself: points, arcs and polygons, with m and with z."""
+    lib = ctypes.CDLL("libshp.so.2")
+    lib.SHPCreate.restype = lib.SHPCreateObject.restype = ctypes.c_void_p
+    lib.SHPWriteObject.argtypes = [ctypes.c_void_p, ctypes.c_int, ctypes.c_void_p]
+    lib.SHPDestroyObject.argtypes = lib.SHPClose.argtypes = [ctypes.c_void_p]
+    doubles = lambda values: (ctypes.c_double * len(values))(*values)
+    for name, kind in (("point", 1), ("pointm", 21), ("pointz", 11), ("arc", 3), ("arcm", 23), ("arcz", 13),
+                       ("polygon", 5), ("polygonm", 25), ("polygonz", 15), ("null", 0), ("empty", 3)):
+        parts = [[[1.0, 2.0]]] if kind in (1, 11, 21) else [RING, HOLE] if kind in (5, 15, 25) else [LINE, SECOND]
+        xy = [c for part in parts for c in part]
+        starts = [sum(len(part) for part in parts[:i]) for i in range(len(parts))]
+        handle = lib.SHPCreate(os.path.join(folder, "shapelib_" + name).encode(), kind)
+        for _ in range(0 if name == "empty" else 2):
+            shape = lib.SHPCreateObject(
+                kind, -1, len(parts), (ctypes.c_int * len(starts))(*starts), None, len(xy),
+                doubles([c[0] for c in xy]), doubles([c[1] for c in xy]), doubles([3.0] * len(xy)), doubles([4.0] * len(xy)))
+            lib.SHPWriteObject(handle, -1, shape)
+            lib.SHPDestroyObject(shape)
+        lib.SHPClose(handle)
+
+
+def pyshp(folder):
+    import shapefile
+    lines = {"line": [LINE, SECOND], "poly": [RING, HOLE]}
+    for name, kind in (("point", 1), ("pointm", 21), ("pointz", 11), ("polyline", 3), ("polylinem", 23), ("polylinez", 13),
+                       ("polygon", 5), ("polygonm", 25), ("polygonz", 15), ("null", 0), ("empty", 3)):
+        with shapefile.Writer(os.path.join(folder, "pyshp_" + name), shapeType=kind) as w:
+            w.field("name", "C")
+            for k in range(0 if name == "empty" else 2):
+                if kind == 0:
+                    w.null()
+                elif kind == 1:
+                    w.point(1.0, 2.0)
+                elif kind == 21:
+                    w.pointm(1.0, 2.0, 4.0)
+                elif kind == 11:
+                    w.pointz(1.0, 2.0, 3.0, 4.0)
+                else:
+                    parts = lines["line" if kind in (3, 13, 23) else "poly"]
+                    extra = {3: 0, 5: 0, 23: 1, 25: 1, 13: 2, 15: 2}[kind]
+                    parts = [[xy + [1.0] * extra for xy in part] for part in parts]
+                    {3: w.line, 23: w.linem, 13: w.linez, 5: w.poly, 25: w.polym, 15: w.polyz}[kind](parts)
+                w.record("run %d" % k)
+
+
+def main():
+    if len(sys.argv) != 2:
+        print(__doc__.strip())
+        return 2
+    os.makedirs(sys.argv[1], exist_ok=True)
+    for producer in (gdal, shapelib, pyshp):
+        try:
+            producer(sys.argv[1])
+        except (OSError, subprocess.SubprocessError, ImportError) as e:
+            print("%s: %s" % (producer.__name__, e), file=sys.stderr)
+            return 1
+    return 0
+
+
+if __name__ == "__main__":
+    sys.exit(main())
