@@ -2,7 +2,6 @@
 mod BodyLaws
 mod CountLaws
 pub mod Determined
-pub mod Examples
 mod PartLaws
 mod RestLaws
 mod StoreLaws
