@@ -1,1 +1,159 @@
-// The pair checker.
+// The pair checker: a .shp and its .shx against the rules P1 to P17 of document 01, once over the bytes.
+ghost use mathlib.Core.Path.{_≡_};
+ghost use mathlib.Core.Bool.{true};
+ghost use Prim.Native.Nat.{_≤_};
+ghost use lib.ListN.{length, drop};
+ghost use Rattle.rules.specs.Rules.{verdict, walkFrom, none-yet};
+ghost use Rattle.pair.specs.Plans.{planFor, takenFrom};
+ghost use Rattle.pair.specs.Verdicts.{saidVerdict};
+use plans::Plan;
+use plans::Planned;
+
+mod heads;
+mod leaves;
+mod plans;
+
+// Yes, with the totals; or no, with the rule that is broken first and the record that breaks it, 0 for the headers.
+pub enum Verdict {
+    Yes {
+        records: usize,
+        parts: usize,
+        points: usize,
+    },
+    No {
+        rule: usize,
+        record: usize,
+    },
+}
+
+// The records behind the headers. The first fault in record order, then rule order, ends the walk.
+fn walk(plan: Plan, shp: &[u8], shx: &[u8]) -> Verdict
+    requires { ⌜ (plan ≡ planFor (takenFrom plan)) × (plan .rings ≡ true → plan .parts ≡ true) × (100 ≤ length (now shp)) × (100 ≤ length (now shx)) ⌝ }
+    ensures { λ r. ⌜ saidVerdict r ≡ walkFrom (takenFrom plan) (drop 100 (now (shp .entry))) (drop 100 (now (shx .entry))) 100 none-yet ⌝ }
+{
+    let mut at: usize = 100;
+    let mut ix: usize = 100;
+    let mut records: usize = 0;
+    let mut parts: usize = 0;
+    let mut points: usize = 0;
+    'walk: loop {
+        // P17: at the end of the .shp no index entry is left over
+        if at >= shp.len() {
+            if ix < shx.len() {
+                break 'walk Verdict::No {
+                    rule: 17,
+                    record: records + 1,
+                };
+            }
+            break 'walk Verdict::Yes {
+                records: records,
+                parts: parts,
+                points: points,
+            };
+        }
+        // P9 to P13
+        let fault = heads::head_fault(plan, shp, shx, at, ix, records + 1);
+        if fault != 0 {
+            break 'walk Verdict::No {
+                rule: fault,
+                record: records + 1,
+            };
+        }
+        let words = leaves::big(shp, at + 4);
+        let p = plans::parts_at(plan, shp, at);
+        let n = plans::points_at(plan, shp, at);
+        // P14: there is a part, the first one starts at point 0, and each has points enough
+        if !plans::begins(plan, shp, at, p) {
+            break 'walk Verdict::No {
+                rule: 14,
+                record: records + 1,
+            };
+        }
+        let mut start = at + 56;
+        let mut left = p;
+        let mut cur: usize = 0;
+        'parts: while 0 < left {
+            left -= 1;
+            let end = leaves::end_of(shp, start, left, n);
+            if end < cur + plan.least {
+                break 'walk Verdict::No {
+                    rule: 14,
+                    record: records + 1,
+                };
+            }
+            cur = end;
+            start += 4;
+        }
+        // P15: the rings among them are closed
+        let pairs = at + 52 + 4 * p;
+        let mut next = at + 56;
+        let mut rings = plans::rings_in(plan, p);
+        let mut from: usize = 0;
+        'rings: while 0 < rings {
+            rings -= 1;
+            let end = leaves::end_of(shp, next, rings, n);
+            if !leaves::closed(shp, pairs, from, end) {
+                break 'walk Verdict::No {
+                    rule: 15,
+                    record: records + 1,
+                };
+            }
+            from = end;
+            next += 4;
+        }
+        // P16: the doubles in front of the counts, or of a point, and those behind the starts
+        let mut front = at + 12;
+        let mut fronts = plans::front_doubles(plan, words);
+        'front: while 0 < fronts {
+            if !leaves::is_finite(shp, front) {
+                break 'walk Verdict::No {
+                    rule: 16,
+                    record: records + 1,
+                };
+            }
+            fronts -= 1;
+            front += 8;
+        }
+        let mut double = pairs;
+        let mut doubles = plans::back_doubles(plan, words, p);
+        'doubles: while 0 < doubles {
+            if !leaves::is_finite(shp, double) {
+                break 'walk Verdict::No {
+                    rule: 16,
+                    record: records + 1,
+                };
+            }
+            doubles -= 1;
+            double += 8;
+        }
+        at += 8 + leaves::in_bytes(words);
+        ix += 8;
+        records += 1;
+        parts += p;
+        points += n;
+    }
+}
+
+// The verdict on a .shp and its .shx.
+pub fn check_pair(shp: &[u8], shx: &[u8]) -> Verdict
+    ensures { λ r. ⌜ saidVerdict r ≡ verdict (now (shp .entry)) (now (shx .entry)) ⌝ }
+{
+    let front = heads::front_fault(shp, shx);
+    if front != 0 {
+        return Verdict::No {
+            rule: front,
+            record: 0,
+        };
+    }
+    let Planned::Is(plan) = plans::plan_in(shp) else {
+        return Verdict::No { rule: 4, record: 0 };
+    };
+    let back = heads::back_fault(shp, shx);
+    if back != 0 {
+        return Verdict::No {
+            rule: back,
+            record: 0,
+        };
+    }
+    walk(plan, shp, shx)
+}

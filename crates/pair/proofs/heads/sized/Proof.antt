@@ -1,0 +1,123 @@
+-- `pair::heads::sized` meets its contract: by whether the kind has parts, and the counts.
+use mathlib.Core.Path.{_≡_, sym, ap, _∙_}
+use mathlib.Core.Bool.{Bool, true, _||_}
+use mathlib.Core.List.{List}
+use Prim.Native.Nat.{ℕ, _+_, _≤_}
+use native.Mathlib.Omega.{arith}
+use lib.Dec.{eqb}
+use borrow.Author.Needs.{needs}
+use lib.ListN.{length, drop}
+use borrow.Author.Tests.{not-true, not-false}
+use Rattle.rules.specs.Rules.{wordsOf, littleAt}
+use Rattle.pair.specs.declared.plans.Plan.{Plan}
+use Rattle.pair.specs.Plans.{hasParts, takenFrom}
+use Rattle.pair.specs.Verdicts.{formulaWords}
+use Rattle.pair.proofs.HeadLaws.{few-alone, plain13, few13, parts13, points13, last13}
+use Rattle.pair.proofs.PlaceLaws.{big-drop, little-drop}
+use Rattle.pair.proofs.heads.sized.Statement.{statement}
+use Rattle.pair.proofs.heads.sized.Tie as tie
+
+-- the record's bytes, what is read of them, and that the kind has parts
+abbrev here : tie.After-big → List ℕ
+here c = drop (c .before .before .args .at) (c .before .before .args .shp .now)
+
+words-are : (c : tie.After-big) → wordsOf (here c) ≡ c .big .result
+words-are c = big-drop (c .before .before .args .at) (c .before .before .args .shp .now) 4 ∙ sym (c .big .ensures .value)
+
+parted : (c : tie.Else1) → hasParts (takenFrom (c .before .before .before .before .before .args .plan) .form) ≡ true
+parted c = sym (ap (λ (p : Plan). p .parts) (c .before .before .before .before .before .pre .0)) ∙ not-false _ (c .if1 .left)
+
+room : (c : tie.Else2) → c .before .before .before .before .before .before .args .at + 52 ≤ length (c .before .before .before .before .before .before .args .shp .now)
+room c = omega (arith, c .before .before .before .before .before .before .pre .1, c .before .before .before .before .big .ensures .value, c .if2 .left)
+
+p-is : (c : tie.After-little) → littleAt 44 (here (c .before .before .before .before .before)) ≡ c .little .result
+p-is c =
+    let a = c .before .before .before .before .before .before .before .args in
+    little-drop (a .at) (a .shp .now) 44 ∙ sym (c .little .ensures .value)
+
+n-is : (c : tie.After-little2) → littleAt 48 (here (c .before .before .before .before .before .before .before)) ≡ c .little2 .result
+n-is c =
+    let a = c .before .before .before .before .before .before .before .before .before .args in
+    little-drop (a .at) (a .shp .now) 48 ∙ sym (c .little2 .ensures .value)
+
+abbrev by-plan : Plan → ℕ → ℕ → ℕ → Bool
+by-plan plan p n words = eqb words (formulaWords (plan .lengths .without) p n) || eqb words (formulaWords (plan .lengths .with) p n)
+
+add-big : tie.Need-add-big
+add-big c = search needs
+
+big-requires : tie.Need-big-requires
+big-requires c κs = search needs
+
+measures-requires : tie.Need-measures-requires
+measures-requires c κs =
+    let s = c .before .before .before .before .before in
+    (omega arith, rw (ap (λ (p : Plan). p .points) (s .pre .0)) (few-alone (takenFrom (s .args .plan) .form)), rw (c .before .before .before .big .ensures .value) (s .pre .2))
+
+returns : tie.Need-returns
+returns c =
+    let s = c .before .before .before .before .before .before in
+    let b = c .before .before .before .before in
+    c .measures .ensures ∙ (ap (λ (p : Plan). by-plan p 0 (p .points) (b .big .result)) (s .pre .0)
+    ∙ plain13 (takenFrom (s .args .plan)) (here b) (b .big .result) (sym (ap (λ (p : Plan). p .parts) (s .pre .0)) ∙ not-true _ (c .before .if1 .taken)) (words-are b))
+
+returns-2 : tie.Need-returns-2
+returns-2 c =
+    let d = c .before in
+    few13 (takenFrom (d .before .before .before .before .before .args .plan)) (here (d .before .before .before)) (parted d) (rw (words-are (d .before .before .before)) (c .if2 .taken))
+
+add-little : tie.Need-add-little
+add-little c = omega (arith, room c)
+
+little-requires : tie.Need-little-requires
+little-requires c κs = omega (arith, room c)
+
+returns-3 : tie.Need-returns-3
+returns-3 c =
+    let d = c .before .before .before in
+    parts13 (takenFrom (d .before .before .before .before .before .args .plan)) (here (d .before .before .before)) (parted d) (rw (p-is (c .before)) (c .if3 .taken))
+
+add-little-2 : tie.Need-add-little-2
+add-little-2 c = omega (arith, room (c .before .before))
+
+little-requires-2 : tie.Need-little-requires-2
+little-requires-2 c κs = omega (arith, room (c .before .before))
+
+returns-4 : tie.Need-returns-4
+returns-4 c =
+    let d = c .before .before .before .before .before in
+    points13 (takenFrom (d .before .before .before .before .before .args .plan)) (here (d .before .before .before)) (parted d) (rw (p-is (c .before .before .before)) (c .before .before .if3 .left)) (rw (n-is (c .before)) (c .if4 .taken))
+
+measures-requires-2 : tie.Need-measures-requires-2
+measures-requires-2 c κs =
+    let d = c .before .before .before .before .before in
+    let s = d .before .before .before .before .before in
+    (c .before .before .if3 .left, c .if4 .left, rw (d .before .before .before .big .ensures .value) (s .pre .2))
+
+returns-5 : tie.Need-returns-5
+returns-5 c =
+    let d = c .before .before .before .before .before .before in
+    let b = d .before .before .before in
+    let s = b .before .before in
+    let p = c .before .before .before .before in
+    let n = c .before .before in
+    c .measures2 .ensures ∙ (ap (λ (x : Plan). by-plan x (p .little .result) (n .little2 .result) (b .big .result)) (s .pre .0)
+    ∙ last13 (takenFrom (s .args .plan)) (here b) (parted d) (p .little .result) (n .little2 .result) (b .big .result) (p-is p) (n-is n) (words-are b) (c .before .before .before .if3 .left) (c .before .if4 .left))
+
+pub sized-spec : {M : Type 1} → statement M
+sized-spec =
+    tie.close
+    (tie.spec
+    add-big
+    big-requires
+    measures-requires
+    returns
+    returns-2
+    add-little
+    little-requires
+    returns-3
+    add-little-2
+    little-requires-2
+    returns-4
+    measures-requires-2
+    returns-5)

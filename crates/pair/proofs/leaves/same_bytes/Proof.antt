@@ -1,0 +1,62 @@
+-- `pair::leaves::same_bytes` meets its contract: what is left of the bytes decides as all of them do.
+use mathlib.Core.Path.{_≡_, refl, sym, _∙_}
+use Prim.Native.Nat.{_+_}
+use native.Mathlib.Omega.{arith}
+use Rattle.format.specs.Bytes.{field}
+use Rattle.rules.specs.Rules.{sameBytes}
+use Rattle.pair.proofs.Turns.{same-go, same-no, same-done}
+use Rattle.pair.proofs.leaves.same_bytes.Statement.{statement}
+use Rattle.pair.proofs.leaves.same_bytes.Tie as tie
+
+abbrev Inv-loop : tie.InvT-loop
+Inv-loop a b at n i₀ left₀ i left = (i + left ≡ at + n) × (sameBytes (field left i a) (field left i b) ≡ sameBytes (field n at a) (field n at b))
+
+abbrev μ-loop : tie.MeasureT-loop
+μ-loop a b at n i₀ left₀ i left = left
+
+loop-holds : tie.Need-loop-holds Inv-loop μ-loop
+loop-holds c = (refl, refl)
+
+shared-slice-read-if1 : tie.Need-shared-slice-read-if1 Inv-loop μ-loop
+shared-slice-read-if1 c = omega arith
+
+shared-slice-read-if1-2 : tie.Need-shared-slice-read-if1-2 Inv-loop μ-loop
+shared-slice-read-if1-2 c = omega arith
+
+returns : tie.Need-returns Inv-loop μ-loop
+returns c =
+    let l = c .before .before .before .before .loop in
+    sym (sym (l .inv .1) ∙ same-no _ _ (l .i) (l .left) (c .before .before .before .loop-test .taken) (omega arith) (omega arith) (c .if1 .taken))
+
+sub-left : tie.Need-sub-left Inv-loop μ-loop
+sub-left c = omega arith
+
+add-i : tie.Need-add-i Inv-loop μ-loop
+add-i c = omega arith
+
+loop-less : tie.Need-loop-less Inv-loop μ-loop
+loop-less c = omega arith
+
+loop-again : tie.Need-loop-again Inv-loop μ-loop
+loop-again c =
+    let l = c .before .before .before .before .loop in
+    (omega arith, same-go _ _ (l .i) (l .left) (c .before .before .before .loop-test .taken) (omega arith) (omega arith) (c .if1 .left) ∙ l .inv .1)
+
+returns-2 : tie.Need-returns-2 Inv-loop μ-loop
+returns-2 c = sym (sym (c .before .loop .inv .1) ∙ same-done _ _ (c .before .loop .i) (c .before .loop .left) (c .loop-test .left))
+
+pub same-bytes-spec : {M : Type 1} → statement M
+same-bytes-spec =
+    tie.close
+    (tie.spec
+    Inv-loop
+    μ-loop
+    loop-holds
+    shared-slice-read-if1
+    shared-slice-read-if1-2
+    returns
+    sub-left
+    add-i
+    loop-less
+    loop-again
+    returns-2)

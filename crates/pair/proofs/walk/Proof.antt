@@ -1,0 +1,588 @@
+-- `pair::walk` meets its contract: at each record, and in each of its loops, what is left to do decides as the whole does.
+use mathlib.Core.Path.{_≡_, refl, sym, _∙_}
+use mathlib.Core.Bool.{true}
+use mathlib.Core.List.{List}
+use Prim.Native.Nat.{ℕ, _+_, _*_, _-_, _^_, _≤_, _<_}
+use native.Mathlib.Omega.{arith}
+use lib.ListN.{length, drop}
+use borrow.Author.Needs.{needs}
+use borrow.Author.Tests.{not-true, not-false}
+use Rattle.format.specs.Said.{Said}
+use Rattle.rules.specs.Rules.{Counts, bigAt, partsLong, ringsClosed, finites, none-yet, walkFrom}
+use Rattle.pair.specs.declared.plans.Plan.{Plan}
+use Rattle.pair.specs.Plans.{takenFrom}
+use Rattle.pair.proofs.RecordLaws.{left-over, all-behind}
+use Rattle.pair.proofs.Turns.{Part, part, parts-go, parts-no, parts-done, rings-go, rings-no, rings-done, finites-go, finites-no, finites-done}
+use Rattle.pair.proofs.WalkLaws.{Walked, Open, Room, room, Here, Fit, fit, counts-room, no-head, begins, long, closed, front, long-rings, few-rings, no14-first, no14, no15, no16-front, no16, next}
+use Rattle.pair.proofs.walk.Statement.{statement}
+use Rattle.pair.proofs.walk.Tie as tie
+
+abbrev Inv-parts : tie.InvT-parts
+Inv-parts plan shp shx at ix records parts points fault words p n start₀ left₀ cur₀ start left cur =
+    (start + 4 * left ≡ start₀ + 4 * left₀) × (left ≤ left₀) × (cur < 2 ^ 32)
+    × (partsLong (plan .least) left start cur n shp ≡ partsLong (plan .least) left₀ start₀ cur₀ n shp)
+
+abbrev μ-parts : tie.MeasureT-parts
+μ-parts plan shp shx at ix records parts points fault words p n start₀ left₀ cur₀ start left cur = left
+
+abbrev Inv-rings : tie.InvT-rings
+Inv-rings plan shp shx at ix records parts points fault words p n start left cur pairs next₀ rings₀ from₀ next rings from =
+    (next + 4 * rings ≡ next₀ + 4 * rings₀) × (rings ≤ rings₀) × (partsLong (plan .least) rings next from n shp ≡ true)
+    × (ringsClosed pairs rings next from n shp ≡ ringsClosed pairs rings₀ next₀ from₀ n shp)
+
+abbrev μ-rings : tie.MeasureT-rings
+μ-rings plan shp shx at ix records parts points fault words p n start left cur pairs next₀ rings₀ from₀ next rings from = rings
+
+abbrev Inv-front : tie.InvT-front
+Inv-front plan shp shx at ix records parts points fault words p n start left cur pairs next rings from front₀ fronts₀ front fronts =
+    (front + 8 * fronts ≡ front₀ + 8 * fronts₀) × (finites fronts front shp ≡ finites fronts₀ front₀ shp)
+
+abbrev μ-front : tie.MeasureT-front
+μ-front plan shp shx at ix records parts points fault words p n start left cur pairs next rings from front₀ fronts₀ front fronts = fronts
+
+abbrev Inv-doubles : tie.InvT-doubles
+Inv-doubles plan shp shx at ix records parts points fault words p n start left cur pairs next rings from front fronts double₀ doubles₀ double doubles =
+    (double + 8 * doubles ≡ double₀ + 8 * doubles₀) × (doubles ≤ doubles₀)
+    × (finites doubles double shp ≡ finites doubles₀ double₀ shp)
+
+abbrev μ-doubles : tie.MeasureT-doubles
+μ-doubles plan shp shx at ix records parts points fault words p n start left cur pairs next rings from front fronts double₀ doubles₀ double doubles = doubles
+
+abbrev Inv-walk : tie.InvT-walk
+Inv-walk plan shp shx at₀ ix₀ records₀ parts₀ points₀ at ix records parts points =
+    Walked plan shp shx at ix records parts points (walkFrom (takenFrom plan) (drop 100 shp) (drop 100 shx) 100 none-yet)
+
+abbrev μ-walk : tie.MeasureT-walk
+μ-walk plan shp shx at₀ ix₀ records₀ parts₀ points₀ at ix records parts points = length shp - at
+
+-- ---- the places of the code that the lemmas speak of
+
+abbrev Turn : Type 0
+Turn = tie.At-walk Inv-parts μ-parts Inv-rings μ-rings Inv-front μ-front Inv-doubles μ-doubles Inv-walk μ-walk
+
+abbrev Inside : Type 0
+Inside = tie.Else1 Inv-parts μ-parts Inv-rings μ-rings Inv-front μ-front Inv-doubles μ-doubles Inv-walk μ-walk
+
+abbrev Opened : Type 0
+Opened = tie.Else3 Inv-parts μ-parts Inv-rings μ-rings Inv-front μ-front Inv-doubles μ-doubles Inv-walk μ-walk
+
+abbrev Worded : Type 0
+Worded = tie.After-big Inv-parts μ-parts Inv-rings μ-rings Inv-front μ-front Inv-doubles μ-doubles Inv-walk μ-walk
+
+abbrev Counted : Type 0
+Counted = tie.After-points-at Inv-parts μ-parts Inv-rings μ-rings Inv-front μ-front Inv-doubles μ-doubles Inv-walk μ-walk
+
+abbrev Begun : Type 0
+Begun = tie.Else4 Inv-parts μ-parts Inv-rings μ-rings Inv-front μ-front Inv-doubles μ-doubles Inv-walk μ-walk
+
+abbrev Part-turn : Type 0
+Part-turn = tie.In-parts Inv-parts μ-parts Inv-rings μ-rings Inv-front μ-front Inv-doubles μ-doubles Inv-walk μ-walk
+
+abbrev Lengthy : Type 0
+Lengthy = tie.After-parts Inv-parts μ-parts Inv-rings μ-rings Inv-front μ-front Inv-doubles μ-doubles Inv-walk μ-walk
+
+abbrev Ring-turn : Type 0
+Ring-turn = tie.In-rings Inv-parts μ-parts Inv-rings μ-rings Inv-front μ-front Inv-doubles μ-doubles Inv-walk μ-walk
+
+abbrev Ring-ended : Type 0
+Ring-ended = tie.After-end-of2 Inv-parts μ-parts Inv-rings μ-rings Inv-front μ-front Inv-doubles μ-doubles Inv-walk μ-walk
+
+abbrev Closed : Type 0
+Closed = tie.After-rings Inv-parts μ-parts Inv-rings μ-rings Inv-front μ-front Inv-doubles μ-doubles Inv-walk μ-walk
+
+abbrev Fronted : Type 0
+Fronted = tie.After-front Inv-parts μ-parts Inv-rings μ-rings Inv-front μ-front Inv-doubles μ-doubles Inv-walk μ-walk
+
+abbrev Double-turn : Type 0
+Double-turn = tie.In-doubles Inv-parts μ-parts Inv-rings μ-rings Inv-front μ-front Inv-doubles μ-doubles Inv-walk μ-walk
+
+-- ---- what a place knows of the record: the plan, the two files, the walk's verdict; and its words, parts and points
+
+abbrev plan-of : (c : Turn) → Plan
+plan-of c = c .before .before .before .args .plan
+
+abbrev shp-of : (c : Turn) → List ℕ
+shp-of c = c .before .before .before .args .shp .now
+
+abbrev shx-of : (c : Turn) → List ℕ
+shx-of c = c .before .before .before .args .shx .now
+
+abbrev whole : (c : Turn) → Said Counts
+whole c = walkFrom (takenFrom (plan-of c)) (drop 100 (shp-of c)) (drop 100 (shx-of c)) 100 none-yet
+
+abbrev turn : (c : Counted) → Turn
+turn c = c .before .before .before .before .before .before
+
+abbrev w-of : (c : Counted) → ℕ
+w-of c = c .before .before .big .result
+
+abbrev p-of : (c : Counted) → ℕ
+p-of c = c .before .parts-at .result
+
+abbrev n-of : (c : Counted) → ℕ
+n-of c = c .points-at .result
+
+abbrev pairs-of : (c : Counted) → ℕ
+pairs-of c = turn c .walk .at + 52 + 4 * p-of c
+
+-- ---- the record, once its head has no fault
+
+small : (c : Inside) → (c .before .walk .records < 2 ^ 63) × (c .before .walk .at < 2 ^ 63) × (c .before .walk .ix < 2 ^ 63)
+small c = (omega arith, omega arith, omega arith)
+
+opened : (c : Opened) → Open (plan-of (c .before .before .before)) (shp-of (c .before .before .before)) (shx-of (c .before .before .before)) (c .before .before .before .walk .at) (c .before .before .before .walk .ix) (c .before .before .before .walk .records)
+opened c =
+    let e = c .before .before .before .before .before .before in
+    record { is = e .pre .0; ringed = e .pre .1; inside = c .before .before .if1 .left; hd = sym (c .if3 .left) ∙ c .before .head-fault .ensures }
+
+worded : (c : Worded) → Room (plan-of (c .before .before .before .before)) (shp-of (c .before .before .before .before)) (shx-of (c .before .before .before .before)) (c .before .before .before .before .walk .at) (c .before .before .before .before .walk .ix) (c .big .result)
+worded c = room (opened (c .before)) (c .big .result) (c .big .ensures .value)
+
+here : (c : Counted) → Here (plan-of (turn c)) (shp-of (turn c)) (shx-of (turn c)) (turn c .walk .at) (turn c .walk .ix) (turn c .walk .records) (turn c .walk .parts) (turn c .walk .points) (w-of c) (p-of c) (n-of c) (whole (turn c))
+here c =
+    record {
+      opened = opened (c .before .before .before);
+      we = c .before .before .big .ensures .value;
+      pe = c .before .parts-at .ensures .value;
+      ne = c .points-at .ensures;
+      rest = turn c .walk .inv .rest;
+    }
+
+fitted : (c : Counted) → Fit (plan-of (turn c)) (shp-of (turn c)) (shx-of (turn c)) (turn c .walk .at) (turn c .walk .ix) (w-of c) (p-of c) (n-of c)
+fitted c = fit (here c)
+
+-- ---- what holds behind each loop
+
+begun : (c : Begun) → begins (here (c .before .before)) ≡ true
+begun c = sym (c .before .begins .ensures) ∙ not-false _ (c .if4 .left)
+
+lengthy : (c : Lengthy) → long (here (c .before .before .before .before)) ≡ true
+lengthy c =
+    let k = c .before .before .before .before in
+    let l = c .before .parts in
+    sym (l .inv .3) ∙ parts-done (shp-of (turn k)) (n-of k) (plan-of (turn k) .least) (l .start) (l .cur) (l .left) (c .parts-test .left)
+
+all-closed : (c : Closed) → closed (here (c .before .before .before .before .before .before .before)) ≡ true
+all-closed c =
+    let k = c .before .before .before .before .before .before .before in
+    let l = c .before .rings in
+    rw (← c .before .before .rings-in .ensures)
+    (sym (l .inv .3) ∙ rings-done (shp-of (turn k)) (n-of k) (pairs-of k) (l .next) (l .from) (l .rings) (c .rings-test .left))
+
+front-fine : (c : Fronted) → front (here (c .before .before .before .before .before .before .before .before .before .before)) ≡ true
+front-fine c =
+    let l = c .before .front in
+    rw (← c .before .before .front-doubles .ensures) (sym (l .inv .1) ∙ finites-done _ (l .front) (l .fronts) (c .front-test .left))
+
+-- ---- and in them: there is a part, a ring, a double behind the starts
+
+part-room : (c : Part-turn) → 22 + 2 * p-of (c .before .before .before .before) + 8 * n-of (c .before .before .before .before) ≤ w-of (c .before .before .before .before)
+part-room c = fitted (c .before .before .before .before) .in-parts (omega (arith, c .parts-test .taken, c .before .parts .inv .1))
+
+few : (c : Ring-turn) → c .before .before .rings-in .result ≤ p-of (c .before .before .before .before .before .before .before)
+few c = rw (c .before .before .rings-in .ensures) (few-rings (plan-of (turn (c .before .before .before .before .before .before .before)) .rings) (p-of (c .before .before .before .before .before .before .before)))
+
+ring-room : (c : Ring-turn) → 22 + 2 * p-of (c .before .before .before .before .before .before .before) + 8 * n-of (c .before .before .before .before .before .before .before) ≤ w-of (c .before .before .before .before .before .before .before)
+ring-room c = fitted (c .before .before .before .before .before .before .before) .in-parts (omega (arith, c .rings-test .taken, c .before .rings .inv .1, few c))
+
+ring : (c : Ring-ended) → Part (shp-of (turn (c .before .before .before .before .before .before .before .before))) (n-of (c .before .before .before .before .before .before .before .before)) (plan-of (turn (c .before .before .before .before .before .before .before .before)) .least) (c .before .before .rings .next) (c .before .before .rings .from) (c .before .before .rings .rings) (c .end-of2 .result)
+ring c =
+    let k = c .before .before .before .before .before .before .before .before in
+    let l = c .before .before .rings in
+    part (shp-of (turn k)) (n-of k) (plan-of (turn k) .least) (l .next) (l .from) (l .rings) (c .end-of2 .result) (c .before .rings-test .taken) (c .end-of2 .ensures .value) (l .inv .2)
+
+double-room : (c : Double-turn) → 52 + 4 * p-of (c .before .before .before .before .before .before .before .before .before .before .before .before .before) + 8 * c .before .before .back-doubles .result ≤ 8 + 2 * w-of (c .before .before .before .before .before .before .before .before .before .before .before .before .before)
+double-room c =
+    let e = c .before .before .back-doubles .ensures in
+    let f = fitted (c .before .before .before .before .before .before .before .before .before .before .before .before .before) .in-back (omega (arith, e, c .doubles-test .taken, c .before .doubles .inv .1)) in
+    omega (arith, e, f)
+
+-- ---- the answers
+
+walk-holds : tie.Need-walk-holds Inv-parts μ-parts Inv-rings μ-rings Inv-front μ-front Inv-doubles μ-doubles Inv-walk μ-walk
+walk-holds c =
+    record {
+      low = c .before .before .pre .2;
+      xlow = c .before .before .pre .3;
+      few = omega arith;
+      few-parts = omega arith;
+      few-points = omega arith;
+      rest = refl;
+    }
+
+add-t31 : tie.Need-add-t31 Inv-parts μ-parts Inv-rings μ-rings Inv-front μ-front Inv-doubles μ-doubles Inv-walk μ-walk
+add-t31 c = search needs
+
+add-head-fault : tie.Need-add-head-fault Inv-parts μ-parts Inv-rings μ-rings Inv-front μ-front Inv-doubles μ-doubles Inv-walk μ-walk
+add-head-fault c = search needs
+
+head-fault-requires : tie.Need-head-fault-requires Inv-parts μ-parts Inv-rings μ-rings Inv-front μ-front Inv-doubles μ-doubles Inv-walk μ-walk
+head-fault-requires c κs = (c .before .before .before .before .pre .0, c .before .walk .inv .low, c .before .walk .inv .xlow)
+
+add-t32 : tie.Need-add-t32 Inv-parts μ-parts Inv-rings μ-rings Inv-front μ-front Inv-doubles μ-doubles Inv-walk μ-walk
+add-t32 c = search needs
+
+add-big : tie.Need-add-big Inv-parts μ-parts Inv-rings μ-rings Inv-front μ-front Inv-doubles μ-doubles Inv-walk μ-walk
+add-big c = search needs
+
+big-requires : tie.Need-big-requires Inv-parts μ-parts Inv-rings μ-rings Inv-front μ-front Inv-doubles μ-doubles Inv-walk μ-walk
+big-requires c κs =
+    let r = room (opened c) (bigAt (c .before .before .before .walk .at + 4) (shp-of (c .before .before .before))) refl in
+    omega (arith, r .within)
+
+parts-at-requires : tie.Need-parts-at-requires Inv-parts μ-parts Inv-rings μ-rings Inv-front μ-front Inv-doubles μ-doubles Inv-walk μ-walk
+parts-at-requires c κs = λ e. let r = worded c in omega (arith, r .within, r .parted e)
+
+points-at-requires : tie.Need-points-at-requires Inv-parts μ-parts Inv-rings μ-rings Inv-front μ-front Inv-doubles μ-doubles Inv-walk μ-walk
+points-at-requires c κs = λ e. let r = worded (c .before) in omega (arith, r .within, r .parted e)
+
+begins-requires : tie.Need-begins-requires Inv-parts μ-parts Inv-rings μ-rings Inv-front μ-front Inv-doubles μ-doubles Inv-walk μ-walk
+begins-requires c κs = λ e. omega (arith, counts-room (here c) e, fitted c .within)
+
+add-t34 : tie.Need-add-t34 Inv-parts μ-parts Inv-rings μ-rings Inv-front μ-front Inv-doubles μ-doubles Inv-walk μ-walk
+add-t34 c = omega (arith, small (c .before .before .before .before .before .before .before))
+
+add-start : tie.Need-add-start Inv-parts μ-parts Inv-rings μ-rings Inv-front μ-front Inv-doubles μ-doubles Inv-walk μ-walk
+add-start c = omega (arith, small (c .before .before .before .before .before .before .before))
+
+parts-holds : tie.Need-parts-holds Inv-parts μ-parts Inv-rings μ-rings Inv-front μ-front Inv-doubles μ-doubles Inv-walk μ-walk
+parts-holds c = (refl, omega arith, omega arith, refl)
+
+sub-left : tie.Need-sub-left Inv-parts μ-parts Inv-rings μ-rings Inv-front μ-front Inv-doubles μ-doubles Inv-walk μ-walk
+sub-left c = search needs
+
+end-of-requires : tie.Need-end-of-requires Inv-parts μ-parts Inv-rings μ-rings Inv-front μ-front Inv-doubles μ-doubles Inv-walk μ-walk
+end-of-requires c κs =
+    let f = fitted (c .before .before .before .before) in
+    omega (arith, part-room c, f .within, f .few-points, f .held, c .before .parts .inv .0, c .before .parts .inv .1, c .parts-test .taken)
+
+add-if5 : tie.Need-add-if5 Inv-parts μ-parts Inv-rings μ-rings Inv-front μ-front Inv-doubles μ-doubles Inv-walk μ-walk
+add-if5 c = omega (arith, c .before .before .before .parts .inv .2, fitted (c .before .before .before .before .before .before) .least-few)
+
+add-t37 : tie.Need-add-t37 Inv-parts μ-parts Inv-rings μ-rings Inv-front μ-front Inv-doubles μ-doubles Inv-walk μ-walk
+add-t37 c = omega (arith, small (c .before .before .before .before .before .before .before .before .before .before .before .before))
+
+add-start-2 : tie.Need-add-start-2 Inv-parts μ-parts Inv-rings μ-rings Inv-front μ-front Inv-doubles μ-doubles Inv-walk μ-walk
+add-start-2 c =
+    let f = fitted (c .before .before .before .before .before .before .before) in
+    omega (arith, part-room (c .before .before .before), f .held, c .before .before .before .before .parts .inv .0, small (c .before .before .before .before .before .before .before .before .before .before .before .before))
+
+parts-less : tie.Need-parts-less Inv-parts μ-parts Inv-rings μ-rings Inv-front μ-front Inv-doubles μ-doubles Inv-walk μ-walk
+parts-less c = search needs
+
+parts-again : tie.Need-parts-again Inv-parts μ-parts Inv-rings μ-rings Inv-front μ-front Inv-doubles μ-doubles Inv-walk μ-walk
+parts-again c =
+    let k = c .before .before .before .before .before .before .before in
+    let l = c .before .before .before .before .parts in
+    let t = c .before .before .before .parts-test .taken in (
+      omega (arith, l .inv .0, t),
+      omega (arith, l .inv .1),
+      c .before .before .end-of .ensures .small,
+      parts-go (shp-of (turn k)) (n-of k) (plan-of (turn k) .least) (l .start) (l .cur) (c .before .before .end-of .result) (l .left) t (c .before .before .end-of .ensures .value) (c .if5 .left)
+          ∙ l .inv .3,
+    )
+
+add-pairs : tie.Need-add-pairs Inv-parts μ-parts Inv-rings μ-rings Inv-front μ-front Inv-doubles μ-doubles Inv-walk μ-walk
+add-pairs c = omega (arith, small (c .before .before .before .before .before .before .before .before .before))
+
+mul-pairs : tie.Need-mul-pairs Inv-parts μ-parts Inv-rings μ-rings Inv-front μ-front Inv-doubles μ-doubles Inv-walk μ-walk
+mul-pairs c = omega (arith, c .before .before .before .before .before .parts-at .ensures .small)
+
+add-pairs-2 : tie.Need-add-pairs-2 Inv-parts μ-parts Inv-rings μ-rings Inv-front μ-front Inv-doubles μ-doubles Inv-walk μ-walk
+add-pairs-2 c = omega (arith, small (c .before .before .before .before .before .before .before .before .before), c .before .before .before .before .before .parts-at .ensures .small)
+
+add-next : tie.Need-add-next Inv-parts μ-parts Inv-rings μ-rings Inv-front μ-front Inv-doubles μ-doubles Inv-walk μ-walk
+add-next c = omega (arith, small (c .before .before .before .before .before .before .before .before .before))
+
+rings-in-requires : tie.Need-rings-in-requires Inv-parts μ-parts Inv-rings μ-rings Inv-front μ-front Inv-doubles μ-doubles Inv-walk μ-walk
+rings-in-requires c κs = search needs
+
+rings-holds : tie.Need-rings-holds Inv-parts μ-parts Inv-rings μ-rings Inv-front μ-front Inv-doubles μ-doubles Inv-walk μ-walk
+rings-holds c =
+    let k = c .before .before .before .before .before in
+    let r = plan-of (turn k) in (
+      refl,
+      omega arith,
+      rw (c .rings-in .ensures) (long-rings (r .rings) (shp-of (turn k)) (n-of k) (r .least) (turn k .walk .at + 56) 0 (p-of k) (lengthy (c .before))),
+      refl,
+    )
+
+sub-rings : tie.Need-sub-rings Inv-parts μ-parts Inv-rings μ-rings Inv-front μ-front Inv-doubles μ-doubles Inv-walk μ-walk
+sub-rings c = search needs
+
+end-of-requires-2 : tie.Need-end-of-requires-2 Inv-parts μ-parts Inv-rings μ-rings Inv-front μ-front Inv-doubles μ-doubles Inv-walk μ-walk
+end-of-requires-2 c κs =
+    let f = fitted (c .before .before .before .before .before .before .before) in
+    omega (arith, few c, ring-room c, f .within, f .few-points, f .held, c .before .rings .inv .0, c .before .rings .inv .1, c .rings-test .taken)
+
+closed-requires : tie.Need-closed-requires Inv-parts μ-parts Inv-rings μ-rings Inv-front μ-front Inv-doubles μ-doubles Inv-walk μ-walk
+closed-requires c κs =
+    let f = fitted (c .before .before .before .before .before .before .before .before) in
+    let r = ring c in
+    omega (arith, ring-room (c .before), f .within, f .least-some, r .long, r .within)
+
+add-t41 : tie.Need-add-t41 Inv-parts μ-parts Inv-rings μ-rings Inv-front μ-front Inv-doubles μ-doubles Inv-walk μ-walk
+add-t41 c = omega (arith, small (c .before .before .before .before .before .before .before .before .before .before .before .before .before .before .before))
+
+add-next-2 : tie.Need-add-next-2 Inv-parts μ-parts Inv-rings μ-rings Inv-front μ-front Inv-doubles μ-doubles Inv-walk μ-walk
+add-next-2 c =
+    let f = fitted (c .before .before .before .before .before .before .before .before .before .before) in
+    omega (arith, few (c .before .before .before), f .few-parts, f .held, c .before .before .before .before .rings .inv .0, small (c .before .before .before .before .before .before .before .before .before .before .before .before .before .before .before))
+
+rings-less : tie.Need-rings-less Inv-parts μ-parts Inv-rings μ-rings Inv-front μ-front Inv-doubles μ-doubles Inv-walk μ-walk
+rings-less c = search needs
+
+rings-again : tie.Need-rings-again Inv-parts μ-parts Inv-rings μ-rings Inv-front μ-front Inv-doubles μ-doubles Inv-walk μ-walk
+rings-again c =
+    let k = c .before .before .before .before .before .before .before .before .before .before in
+    let l = c .before .before .before .before .rings in
+    let t = c .before .before .before .rings-test .taken in (
+      omega (arith, l .inv .0, t),
+      omega (arith, l .inv .1),
+      ring (c .before .before) .others,
+      rings-go (shp-of (turn k)) (n-of k) (pairs-of k) (l .next) (l .from) (c .before .before .end-of2 .result) (l .rings) t (c .before .before .end-of2 .ensures .value) (sym (c .before .closed .ensures) ∙ not-false _ (c .if6 .left))
+          ∙ l .inv .3,
+    )
+
+add-front : tie.Need-add-front Inv-parts μ-parts Inv-rings μ-rings Inv-front μ-front Inv-doubles μ-doubles Inv-walk μ-walk
+add-front c = omega (arith, small (c .before .before .before .before .before .before .before .before .before .before .before .before))
+
+front-doubles-requires : tie.Need-front-doubles-requires Inv-parts μ-parts Inv-rings μ-rings Inv-front μ-front Inv-doubles μ-doubles Inv-walk μ-walk
+front-doubles-requires c κs = worded (c .before .before .before .before .before .before .before .before .before) .some
+
+front-holds : tie.Need-front-holds Inv-parts μ-parts Inv-rings μ-rings Inv-front μ-front Inv-doubles μ-doubles Inv-walk μ-walk
+front-holds c = (refl, refl)
+
+is-finite-requires : tie.Need-is-finite-requires Inv-parts μ-parts Inv-rings μ-rings Inv-front μ-front Inv-doubles μ-doubles Inv-walk μ-walk
+is-finite-requires c κs =
+    let f = fitted (c .before .before .before .before .before .before .before .before .before .before) in
+    omega (arith, f .within, f .in-front, c .before .before .front-doubles .ensures, c .before .front .inv .0, c .front-test .taken)
+
+add-t44 : tie.Need-add-t44 Inv-parts μ-parts Inv-rings μ-rings Inv-front μ-front Inv-doubles μ-doubles Inv-walk μ-walk
+add-t44 c = omega (arith, small (c .before .before .before .before .before .before .before .before .before .before .before .before .before .before .before .before .before))
+
+sub-fronts : tie.Need-sub-fronts Inv-parts μ-parts Inv-rings μ-rings Inv-front μ-front Inv-doubles μ-doubles Inv-walk μ-walk
+sub-fronts c = search needs
+
+add-front-2 : tie.Need-add-front-2 Inv-parts μ-parts Inv-rings μ-rings Inv-front μ-front Inv-doubles μ-doubles Inv-walk μ-walk
+add-front-2 c =
+    let f = fitted (c .before .before .before .before .before .before .before .before .before .before .before .before) in
+    omega (arith, f .in-front, f .held, c .before .before .before .before .front-doubles .ensures, c .before .before .before .front .inv .0, small (c .before .before .before .before .before .before .before .before .before .before .before .before .before .before .before .before .before))
+
+front-less : tie.Need-front-less Inv-parts μ-parts Inv-rings μ-rings Inv-front μ-front Inv-doubles μ-doubles Inv-walk μ-walk
+front-less c = search needs
+
+front-again : tie.Need-front-again Inv-parts μ-parts Inv-rings μ-rings Inv-front μ-front Inv-doubles μ-doubles Inv-walk μ-walk
+front-again c =
+    let l = c .before .before .before .front in
+    let t = c .before .before .front-test .taken in
+    (omega (arith, l .inv .0, t), finites-go _ (l .front) (l .fronts) t (sym (c .before .is-finite .ensures) ∙ not-false _ (c .if7 .left)) ∙ l .inv .1)
+
+back-doubles-requires : tie.Need-back-doubles-requires Inv-parts μ-parts Inv-rings μ-rings Inv-front μ-front Inv-doubles μ-doubles Inv-walk μ-walk
+back-doubles-requires c κs = λ e. omega (arith, counts-room (here (c .before .before .before .before .before .before .before .before .before .before)) e)
+
+doubles-holds : tie.Need-doubles-holds Inv-parts μ-parts Inv-rings μ-rings Inv-front μ-front Inv-doubles μ-doubles Inv-walk μ-walk
+doubles-holds c = (refl, omega arith, refl)
+
+is-finite-requires-2 : tie.Need-is-finite-requires-2 Inv-parts μ-parts Inv-rings μ-rings Inv-front μ-front Inv-doubles μ-doubles Inv-walk μ-walk
+is-finite-requires-2 c κs =
+    let f = fitted (c .before .before .before .before .before .before .before .before .before .before .before .before .before) in
+    omega (arith, f .within, double-room c, c .before .doubles .inv .0, c .doubles-test .taken)
+
+add-t47 : tie.Need-add-t47 Inv-parts μ-parts Inv-rings μ-rings Inv-front μ-front Inv-doubles μ-doubles Inv-walk μ-walk
+add-t47 c = omega (arith, small (c .before .before .before .before .before .before .before .before .before .before .before .before .before .before .before .before .before .before .before .before))
+
+sub-doubles : tie.Need-sub-doubles Inv-parts μ-parts Inv-rings μ-rings Inv-front μ-front Inv-doubles μ-doubles Inv-walk μ-walk
+sub-doubles c = search needs
+
+add-double : tie.Need-add-double Inv-parts μ-parts Inv-rings μ-rings Inv-front μ-front Inv-doubles μ-doubles Inv-walk μ-walk
+add-double c =
+    let f = fitted (c .before .before .before .before .before .before .before .before .before .before .before .before .before .before .before) in
+    omega (arith, double-room (c .before .before), f .held, c .before .before .before .doubles .inv .0, small (c .before .before .before .before .before .before .before .before .before .before .before .before .before .before .before .before .before .before .before .before))
+
+doubles-less : tie.Need-doubles-less Inv-parts μ-parts Inv-rings μ-rings Inv-front μ-front Inv-doubles μ-doubles Inv-walk μ-walk
+doubles-less c = search needs
+
+doubles-again : tie.Need-doubles-again Inv-parts μ-parts Inv-rings μ-rings Inv-front μ-front Inv-doubles μ-doubles Inv-walk μ-walk
+doubles-again c =
+    let l = c .before .before .before .doubles in
+    let t = c .before .before .doubles-test .taken in (
+      omega (arith, l .inv .0, t),
+      omega (arith, l .inv .1),
+      finites-go _ (l .double) (l .doubles) t (sym (c .before .is-finite2 .ensures) ∙ not-false _ (c .if8 .left)) ∙ l .inv .2,
+    )
+
+in-bytes-requires : tie.Need-in-bytes-requires Inv-parts μ-parts Inv-rings μ-rings Inv-front μ-front Inv-doubles μ-doubles Inv-walk μ-walk
+in-bytes-requires c κs = fitted (c .before .before .before .before .before .before .before .before .before .before .before .before .before) .held
+
+add-at : tie.Need-add-at Inv-parts μ-parts Inv-rings μ-rings Inv-front μ-front Inv-doubles μ-doubles Inv-walk μ-walk
+add-at c = omega (arith, c .in-bytes .ensures, fitted (c .before .before .before .before .before .before .before .before .before .before .before .before .before .before) .held)
+
+add-at-2 : tie.Need-add-at-2 Inv-parts μ-parts Inv-rings μ-rings Inv-front μ-front Inv-doubles μ-doubles Inv-walk μ-walk
+add-at-2 c = omega (arith, c .in-bytes .ensures, fitted (c .before .before .before .before .before .before .before .before .before .before .before .before .before .before) .held, small (c .before .before .before .before .before .before .before .before .before .before .before .before .before .before .before .before .before .before .before))
+
+add-ix : tie.Need-add-ix Inv-parts μ-parts Inv-rings μ-rings Inv-front μ-front Inv-doubles μ-doubles Inv-walk μ-walk
+add-ix c = omega (arith, small (c .before .before .before .before .before .before .before .before .before .before .before .before .before .before .before .before .before .before .before))
+
+add-records : tie.Need-add-records Inv-parts μ-parts Inv-rings μ-rings Inv-front μ-front Inv-doubles μ-doubles Inv-walk μ-walk
+add-records c = omega (arith, small (c .before .before .before .before .before .before .before .before .before .before .before .before .before .before .before .before .before .before .before))
+
+add-parts : tie.Need-add-parts Inv-parts μ-parts Inv-rings μ-rings Inv-front μ-front Inv-doubles μ-doubles Inv-walk μ-walk
+add-parts c =
+    let f = fitted (c .before .before .before .before .before .before .before .before .before .before .before .before .before .before) in
+    omega (arith, c .before .before .before .before .before .before .before .before .before .before .before .before .before .before .before .before .before .before .before .before .walk .inv .few-parts, f .few-parts, f .held, small (c .before .before .before .before .before .before .before .before .before .before .before .before .before .before .before .before .before .before .before))
+
+add-points : tie.Need-add-points Inv-parts μ-parts Inv-rings μ-rings Inv-front μ-front Inv-doubles μ-doubles Inv-walk μ-walk
+add-points c =
+    let f = fitted (c .before .before .before .before .before .before .before .before .before .before .before .before .before .before) in
+    omega (arith, c .before .before .before .before .before .before .before .before .before .before .before .before .before .before .before .before .before .before .before .before .walk .inv .few-points, f .few-points, f .held, small (c .before .before .before .before .before .before .before .before .before .before .before .before .before .before .before .before .before .before .before))
+
+walk-less : tie.Need-walk-less Inv-parts μ-parts Inv-rings μ-rings Inv-front μ-front Inv-doubles μ-doubles Inv-walk μ-walk
+walk-less c = omega (arith, c .in-bytes .ensures, c .before .before .before .before .before .before .before .before .before .before .before .before .before .before .before .before .before .before .before .if1 .left)
+
+walk-again : tie.Need-walk-again Inv-parts μ-parts Inv-rings μ-rings Inv-front μ-front Inv-doubles μ-doubles Inv-walk μ-walk
+walk-again c =
+    let f = fitted (c .before .before .before .before .before .before .before .before .before .before .before .before .before .before) in
+    let w = c .before .before .before .before .before .before .before .before .before .before .before .before .before .before .before .before .before .before .before .before .walk .inv in
+    let l = c .before .before .doubles in
+    let e = c .in-bytes .ensures in
+    record {
+      low = omega (arith, f .within, e);
+      xlow = omega (arith, f .entry);
+      few = omega (arith, w .few);
+      few-parts = omega (arith, w .few-parts, f .few-parts, e);
+      few-points = omega (arith, w .few-points, f .few-points, e);
+      rest =
+          rw e
+          (next (here (c .before .before .before .before .before .before .before .before .before .before .before .before .before .before)) (begun (c .before .before .before .before .before .before .before .before .before .before .before .before)) (lengthy (c .before .before .before .before .before .before .before .before .before .before)) (all-closed (c .before .before .before .before .before .before .before)) (front-fine (c .before .before .before .before))
+          (rw (← c .before .before .before .back-doubles .ensures) (sym (l .inv .2) ∙ finites-done _ (l .double) (l .doubles) (c .before .doubles-test .left))));
+    }
+
+returns : tie.Need-returns Inv-parts μ-parts Inv-rings μ-rings Inv-front μ-front Inv-doubles μ-doubles Inv-walk μ-walk
+returns c = sym (left-over _ (shp-of (c .before .before)) (shx-of (c .before .before)) (c .before .before .walk .at) (c .before .before .walk .ix) _ (c .before .if1 .taken) (c .if2 .taken)) ∙ c .before .before .walk .inv .rest
+
+returns-2 : tie.Need-returns-2 Inv-parts μ-parts Inv-rings μ-rings Inv-front μ-front Inv-doubles μ-doubles Inv-walk μ-walk
+returns-2 c = sym (all-behind _ (shp-of (c .before .before)) (shx-of (c .before .before)) (c .before .before .walk .at) (c .before .before .walk .ix) _ (c .before .if1 .taken) (c .if2 .left)) ∙ c .before .before .walk .inv .rest
+
+returns-3 : tie.Need-returns-3 Inv-parts μ-parts Inv-rings μ-rings Inv-front μ-front Inv-doubles μ-doubles Inv-walk μ-walk
+returns-3 c =
+    let t = c .before .before .before in
+    let w = t .walk in
+    sym (no-head (takenFrom (plan-of t)) (shp-of t) (shx-of t) (w .at) (w .ix) (w .records) (w .parts) (w .points) (c .before .head-fault .result) (c .before .before .if1 .left) (c .before .head-fault .ensures) (c .if3 .taken))
+    ∙ w .inv .rest
+
+returns-4 : tie.Need-returns-4 Inv-parts μ-parts Inv-rings μ-rings Inv-front μ-front Inv-doubles μ-doubles Inv-walk μ-walk
+returns-4 c = no14-first (here (c .before .before)) (sym (c .before .begins .ensures) ∙ not-true _ (c .if4 .taken))
+
+returns-5 : tie.Need-returns-5 Inv-parts μ-parts Inv-rings μ-rings Inv-front μ-front Inv-doubles μ-doubles Inv-walk μ-walk
+returns-5 c =
+    let k = c .before .before .before .before .before .before .before in
+    let l = c .before .before .before .before .parts in
+    no14 (here k) (begun (c .before .before .before .before .before))
+    (sym (l .inv .3)
+    ∙ parts-no (shp-of (turn k)) (n-of k) (plan-of (turn k) .least) (l .start) (l .cur) (c .before .before .end-of .result) (l .left) (c .before .before .before .parts-test .taken) (c .before .before .end-of .ensures .value) (c .if5 .taken))
+
+returns-6 : tie.Need-returns-6 Inv-parts μ-parts Inv-rings μ-rings Inv-front μ-front Inv-doubles μ-doubles Inv-walk μ-walk
+returns-6 c =
+    let k = c .before .before .before .before .before .before .before .before .before .before in
+    let l = c .before .before .before .before .rings in
+    no15 (here k) (begun (c .before .before .before .before .before .before .before .before)) (lengthy (c .before .before .before .before .before .before))
+    (rw (← c .before .before .before .before .before .rings-in .ensures)
+    (sym (l .inv .3)
+    ∙ rings-no (shp-of (turn k)) (n-of k) (pairs-of k) (l .next) (l .from) (c .before .before .end-of2 .result) (l .rings) (c .before .before .before .rings-test .taken) (c .before .before .end-of2 .ensures .value) (sym (c .before .closed .ensures) ∙ not-true _ (c .if6 .taken))))
+
+returns-7 : tie.Need-returns-7 Inv-parts μ-parts Inv-rings μ-rings Inv-front μ-front Inv-doubles μ-doubles Inv-walk μ-walk
+returns-7 c =
+    let l = c .before .before .before .front in
+    no16-front (here (c .before .before .before .before .before .before .before .before .before .before .before .before)) (begun (c .before .before .before .before .before .before .before .before .before .before)) (lengthy (c .before .before .before .before .before .before .before .before)) (all-closed (c .before .before .before .before .before))
+    (rw (← c .before .before .before .before .front-doubles .ensures)
+    (sym (l .inv .1) ∙ finites-no _ (l .front) (l .fronts) (c .before .before .front-test .taken) (sym (c .before .is-finite .ensures) ∙ not-true _ (c .if7 .taken))))
+
+returns-8 : tie.Need-returns-8 Inv-parts μ-parts Inv-rings μ-rings Inv-front μ-front Inv-doubles μ-doubles Inv-walk μ-walk
+returns-8 c =
+    let l = c .before .before .before .doubles in
+    no16 (here (c .before .before .before .before .before .before .before .before .before .before .before .before .before .before .before)) (begun (c .before .before .before .before .before .before .before .before .before .before .before .before .before)) (lengthy (c .before .before .before .before .before .before .before .before .before .before .before)) (all-closed (c .before .before .before .before .before .before .before .before)) (front-fine (c .before .before .before .before .before))
+    (rw (← c .before .before .before .before .back-doubles .ensures)
+    (sym (l .inv .2) ∙ finites-no _ (l .double) (l .doubles) (c .before .before .doubles-test .taken) (sym (c .before .is-finite2 .ensures) ∙ not-true _ (c .if8 .taken))))
+
+pub walk-spec : {M : Type 1} → statement M
+walk-spec =
+    tie.close
+    (tie.spec
+    Inv-parts
+    μ-parts
+    Inv-rings
+    μ-rings
+    Inv-front
+    μ-front
+    Inv-doubles
+    μ-doubles
+    Inv-walk
+    μ-walk
+    walk-holds
+    add-t31
+    add-head-fault
+    head-fault-requires
+    add-t32
+    add-big
+    big-requires
+    parts-at-requires
+    points-at-requires
+    begins-requires
+    add-t34
+    add-start
+    parts-holds
+    sub-left
+    end-of-requires
+    add-if5
+    add-t37
+    add-start-2
+    parts-less
+    parts-again
+    add-pairs
+    mul-pairs
+    add-pairs-2
+    add-next
+    rings-in-requires
+    rings-holds
+    sub-rings
+    end-of-requires-2
+    closed-requires
+    add-t41
+    add-next-2
+    rings-less
+    rings-again
+    add-front
+    front-doubles-requires
+    front-holds
+    is-finite-requires
+    add-t44
+    sub-fronts
+    add-front-2
+    front-less
+    front-again
+    back-doubles-requires
+    doubles-holds
+    is-finite-requires-2
+    add-t47
+    sub-doubles
+    add-double
+    doubles-less
+    doubles-again
+    in-bytes-requires
+    add-at
+    add-at-2
+    add-ix
+    add-records
+    add-parts
+    add-points
+    walk-less
+    walk-again
+    returns
+    returns-2
+    returns-3
+    returns-4
+    returns-5
+    returns-6
+    returns-7
+    returns-8)

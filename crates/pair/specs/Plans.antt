@@ -1,0 +1,50 @@
+-- What a taken kind settles for each record, as the code holds it, and numbers that an i32 field holds.
+use mathlib.Core.Path.{_≡_}
+use mathlib.Core.Bool.{Bool, true, false, cond}
+use mathlib.Core.Option.{Option, none, some}
+use Prim.Native.Nat.{ℕ, zero, suc, _^_, _<_}
+use Rattle.format.specs.Lengths.{Form, nothing, onePoint, parts, lengthsFor}
+use Rattle.format.specs.WellFormed.{hasRings, leastPoints}
+use Rattle.rules.specs.Rules.{Taken}
+use Rattle.pair.specs.declared.plans.Plan.{Plan}
+use Rattle.pair.specs.declared.plans.Planned.{Planned}
+use Rattle.pair.specs.declared.plans.Planned.the-variants.{Is, NotTaken}
+
+-- r is the number v, which 32 bits hold
+pub record Word (v r : ℕ) : Type 0 where
+  pub value : r ≡ v
+  pub small : r < 2 ^ 32
+
+abbrev pub hasParts : Form → Bool
+hasParts nothing = false
+hasParts onePoint = false
+hasParts parts = true
+
+-- the points of a record without parts
+abbrev pub pointsAlone : Form → ℕ
+pointsAlone nothing = 0
+pointsAlone onePoint = 1
+pointsAlone parts = 1
+
+abbrev pub planFor : Taken → Plan
+planFor t =
+    record {
+      kind = t .kind;
+      parts = hasParts (t .form);
+      points = pointsAlone (t .form);
+      rings = hasRings (t .kind);
+      least = leastPoints (t .kind);
+      lengths = lengthsFor (t .kind) (t .form);
+    }
+
+abbrev pub planned : Option Taken → Planned
+planned none = NotTaken
+planned (some t) = Is (planFor t)
+
+-- and the kind that a plan is for
+abbrev pub alone : ℕ → Form
+alone zero = nothing
+alone (suc n) = onePoint
+
+abbrev pub takenFrom : Plan → Taken
+takenFrom plan = record { kind = plan .kind; form = cond (plan .parts) parts (alone (plan .points)) }

@@ -1,0 +1,215 @@
+// The rules P1 to P13, each of them a test, and the first that is broken: of the headers, and of a record's header, entry and counts.
+ghost use mathlib.Core.Path.{_≡_};
+ghost use mathlib.Core.Bool.{_||_};
+ghost use Prim.Native.Nat.{_+_, _*_, _^_, _≤_, _<_};
+ghost use lib.Dec.{eqb};
+ghost use lib.ListN.{length, drop};
+ghost use Rattle.rules.specs.Rules.{P3, P7, P8, P9, P10, P11, P13, lengthRight, bigAt};
+ghost use Rattle.pair.specs.Plans.{planFor, takenFrom};
+ghost use Rattle.pair.specs.Verdicts.{frontFault, backFault, headFault, formulaWords};
+use crate::leaves::big;
+use crate::leaves::in_bytes;
+use crate::leaves::little;
+use crate::leaves::same_bytes;
+use crate::plans::Plan;
+use format::lengths::Counted;
+use format::lengths::Formula;
+use format::lengths::Lengths;
+
+// ---- the headers
+
+fn starts_right(shp: &[u8]) -> bool
+    requires { ⌜ 100 ≤ length (now shp) ⌝ }
+    ensures { λ r. ⌜ r ≡ P3 (now (shp .entry)) ⌝ }
+{
+    if big(shp, 0) != 9994 {
+        return false;
+    }
+    if !crate::leaves::zero_bytes(shp, 4, 20) {
+        return false;
+    }
+    little(shp, 28) == 1000
+}
+
+fn length_right(s: &[u8]) -> bool
+    requires { ⌜ 100 ≤ length (now s) ⌝ }
+    ensures { λ r. ⌜ r ≡ lengthRight (now (s .entry)) ⌝ }
+{
+    let words = big(s, 24);
+    if words >= 0x8000_0000 {
+        return false;
+    }
+    in_bytes(words) == s.len()
+}
+
+fn headers_agree(shp: &[u8], shx: &[u8]) -> bool
+    requires { ⌜ (100 ≤ length (now shp)) × (100 ≤ length (now shx)) ⌝ }
+    ensures { λ r. ⌜ r ≡ P7 (now (shp .entry)) (now (shx .entry)) ⌝ }
+{
+    if !same_bytes(shx, shp, 0, 24) {
+        return false;
+    }
+    same_bytes(shx, shp, 28, 72)
+}
+
+fn index_sized(shx: &[u8]) -> bool
+    requires { ⌜ 100 ≤ length (now shx) ⌝ }
+    ensures { λ r. ⌜ r ≡ P8 (now (shx .entry)) ⌝ }
+{
+    if !length_right(shx) {
+        return false;
+    }
+    (shx.len() - 100) % 8 == 0
+}
+
+// The first of P1 to P3 that the headers break; 0 for none.
+pub fn front_fault(shp: &[u8], shx: &[u8]) -> usize
+    ensures { λ r. ⌜ r ≡ frontFault (now (shp .entry)) (now (shx .entry)) ⌝ }
+{
+    if shp.len() < 100 {
+        return 1;
+    }
+    if shx.len() < 100 {
+        return 2;
+    }
+    if !starts_right(shp) {
+        return 3;
+    }
+    0
+}
+
+// And the first of P5 to P8.
+pub fn back_fault(shp: &[u8], shx: &[u8]) -> usize
+    requires { ⌜ (100 ≤ length (now shp)) × (100 ≤ length (now shx)) ⌝ }
+    ensures { λ r. ⌜ r ≡ backFault (now (shp .entry)) (now (shx .entry)) ⌝ }
+{
+    if !length_right(shp) {
+        return 5;
+    }
+    if !crate::leaves::all_finite(shp, 36, 8) {
+        return 6;
+    }
+    if !headers_agree(shp, shx) {
+        return 7;
+    }
+    if !index_sized(shx) {
+        return 8;
+    }
+    0
+}
+
+// ---- a record, whose header stands at a place
+
+fn numbered(shp: &[u8], at: usize, k: usize) -> bool
+    requires { ⌜ at ≤ length (now shp) ⌝ }
+    ensures { λ r. ⌜ r ≡ P9 (drop at (now (shp .entry))) k ⌝ }
+{
+    if shp.len() - at < 8 {
+        return false;
+    }
+    if big(shp, at) != k {
+        return false;
+    }
+    k < 0x8000_0000
+}
+
+fn inside(shp: &[u8], at: usize) -> bool
+    requires { ⌜ at + 8 ≤ length (now shp) ⌝ }
+    ensures { λ r. ⌜ r ≡ P10 (drop at (now (shp .entry))) ⌝ }
+{
+    let words = big(shp, at + 4);
+    if words >= 0x8000_0000 {
+        return false;
+    }
+    if words < 2 {
+        return false;
+    }
+    8 + in_bytes(words) <= shp.len() - at
+}
+
+fn indexed(shp: &[u8], shx: &[u8], at: usize, ix: usize) -> bool
+    requires { ⌜ (at + 8 ≤ length (now shp)) × (ix ≤ length (now shx)) ⌝ }
+    ensures { λ r. ⌜ r ≡ P11 (drop at (now (shp .entry))) (drop ix (now (shx .entry))) at ⌝ }
+{
+    if shx.len() - ix < 8 {
+        return false;
+    }
+    let offset = big(shx, ix);
+    if offset >= 0x8000_0000 {
+        return false;
+    }
+    if in_bytes(offset) != at {
+        return false;
+    }
+    big(shx, ix + 4) == big(shp, at + 4)
+}
+
+// A formula gives so many words.
+fn gives(f: Formula, p: usize, n: usize, words: usize) -> bool
+    requires { ⌜ (p < 2 ^ 31) × (n < 2 ^ 31) × (words < 2 ^ 31) ⌝ }
+    ensures { λ r. ⌜ r ≡ eqb words (formulaWords f p n) ⌝ }
+{
+    match format::lengths::content_words(f, p as u32, n as u32) {
+        Counted::Is(w) => words as i32 == w.0,
+        Counted::Long => false,
+    }
+}
+
+fn measures(lengths: Lengths, p: usize, n: usize, words: usize) -> bool
+    requires { ⌜ (p < 2 ^ 31) × (n < 2 ^ 31) × (words < 2 ^ 31) ⌝ }
+    ensures { λ r. ⌜ r ≡ (eqb words (formulaWords (lengths .without) p n) || eqb words (formulaWords (lengths .with) p n)) ⌝ }
+{
+    let without = lengths.without;
+    if gives(without, p, n, words) {
+        return true;
+    }
+    let with = lengths.with;
+    gives(with, p, n, words)
+}
+
+fn sized(plan: Plan, shp: &[u8], at: usize) -> bool
+    requires { ⌜ (plan ≡ planFor (takenFrom plan)) × (at + 8 + 2 * bigAt (at + 4) (now shp) ≤ length (now shp)) × (bigAt (at + 4) (now shp) < 2 ^ 31) ⌝ }
+    ensures { λ r. ⌜ r ≡ P13 (takenFrom plan) (drop at (now (shp .entry))) ⌝ }
+{
+    let words = big(shp, at + 4);
+    let lengths = plan.lengths;
+    if !plan.parts {
+        return measures(lengths, 0, plan.points, words);
+    }
+    if words < 22 {
+        return false;
+    }
+    let p = little(shp, at + 44);
+    if p >= 0x8000_0000 {
+        return false;
+    }
+    let n = little(shp, at + 48);
+    if n >= 0x8000_0000 {
+        return false;
+    }
+    measures(lengths, p, n, words)
+}
+
+// The first of P9 to P13 that record k breaks; 0 for none.
+pub fn head_fault(plan: Plan, shp: &[u8], shx: &[u8], at: usize, ix: usize, k: usize) -> usize
+    requires { ⌜ (plan ≡ planFor (takenFrom plan)) × (at ≤ length (now shp)) × (ix ≤ length (now shx)) ⌝ }
+    ensures { λ r. ⌜ r ≡ headFault (takenFrom plan) (drop at (now (shp .entry))) (drop ix (now (shx .entry))) at k ⌝ }
+{
+    if !numbered(shp, at, k) {
+        return 9;
+    }
+    if !inside(shp, at) {
+        return 10;
+    }
+    if !indexed(shp, shx, at, ix) {
+        return 11;
+    }
+    let kind = plan.kind;
+    if little(shp, at + 8) != kind.code as usize {
+        return 12;
+    }
+    if !sized(plan, shp, at) {
+        return 13;
+    }
+    0
+}

@@ -1,0 +1,132 @@
+// What the kind that a .shp names settles for each of its records, looked up once for the file.
+ghost use mathlib.Core.Path.{_≡_};
+ghost use mathlib.Core.Bool.{true, cond, _&&_, _||_};
+ghost use Prim.Native.Nat.{_+_, _*_, _-_, _/_, _≤_};
+ghost use lib.Dec.{leb, eqb};
+ghost use lib.ListN.{length};
+ghost use Rattle.rules.specs.Rules.{littleAt, takenIn};
+ghost use Rattle.pair.specs.Plans.{Word, planned};
+use crate::leaves::little;
+use format::kinds::Found;
+use format::kinds::Kind;
+use format::lengths::Content;
+use format::lengths::Lengths;
+
+pub struct Plan {
+    pub kind: Kind,
+    // a record has parts; the points of one that has none
+    pub parts: bool,
+    pub points: usize,
+    // the parts are rings; the points that a part has at least
+    pub rings: bool,
+    pub least: usize,
+    pub lengths: Lengths,
+}
+
+pub enum Planned {
+    Is(Plan),
+    NotTaken,
+}
+
+fn has_rings(code: u32) -> bool
+    ensures { λ r. ⌜ r ≡ (eqb code 5 || eqb code 15 || eqb code 25) ⌝ }
+{
+    match code {
+        5 | 15 | 25 => true,
+        _ => false,
+    }
+}
+
+fn least_points(rings: bool) -> usize
+    ensures { λ r. ⌜ r ≡ cond rings 4 2 ⌝ }
+{
+    if rings { 4 } else { 2 }
+}
+
+fn points_alone(code: u32) -> usize
+    ensures { λ r. ⌜ r ≡ cond (eqb code 0) 0 1 ⌝ }
+{
+    if code == 0 { 0 } else { 1 }
+}
+
+// The plan of the kind that a .shp's header names, where it is a taken one.
+pub fn plan_in(shp: &[u8]) -> Planned
+    requires { ⌜ 100 ≤ length (now shp) ⌝ }
+    ensures { λ r. ⌜ r ≡ planned (takenIn (now (shp .entry))) ⌝ }
+{
+    let code = fields::le_i32_at(shp, 32);
+    let Found::Is(kind) = format::kinds::find_kind(code) else {
+        return Planned::NotTaken;
+    };
+    let Content::Taken(lengths) = format::lengths::lengths_of(kind.code) else {
+        return Planned::NotTaken;
+    };
+    let rings = has_rings(kind.code);
+    Planned::Is(Plan {
+        kind: kind,
+        parts: kind.parts,
+        points: points_alone(kind.code),
+        rings: rings,
+        least: least_points(rings),
+        lengths: lengths,
+    })
+}
+
+// The counts of the record at a place.
+pub fn parts_at(plan: Plan, s: &[u8], at: usize) -> usize
+    requires { ⌜ (plan .parts ≡ true → at + 52 ≤ length (now s)) ⌝ }
+    ensures { λ r. ⌜ Word (cond (plan .parts) (littleAt (at + 44) (now (s .entry))) 0) r ⌝ }
+{
+    if plan.parts { little(s, at + 44) } else { 0 }
+}
+
+pub fn points_at(plan: Plan, s: &[u8], at: usize) -> usize
+    requires { ⌜ (plan .parts ≡ true → at + 52 ≤ length (now s)) ⌝ }
+    ensures { λ r. ⌜ r ≡ cond (plan .parts) (littleAt (at + 48) (now (s .entry))) (plan .points) ⌝ }
+{
+    if plan.parts {
+        little(s, at + 48)
+    } else {
+        plan.points
+    }
+}
+
+// There is a part, and the first one starts at point 0.
+pub fn begins(plan: Plan, s: &[u8], at: usize, p: usize) -> bool
+    requires { ⌜ (plan .parts ≡ true → at + 52 + 4 * p ≤ length (now s)) ⌝ }
+    ensures { λ r. ⌜ r ≡ cond (plan .parts) (leb 1 p && eqb (littleAt (at + 52) (now (s .entry))) 0) true ⌝ }
+{
+    if plan.parts {
+        if p < 1 {
+            return false;
+        }
+        return little(s, at + 52) == 0;
+    }
+    true
+}
+
+// How many of p parts are rings.
+pub fn rings_in(plan: Plan, p: usize) -> usize
+    ensures { λ r. ⌜ r ≡ cond (plan .rings) p 0 ⌝ }
+{
+    if plan.rings { p } else { 0 }
+}
+
+// The doubles in front of the counts, or all of a record without parts; and those behind the starts.
+pub fn front_doubles(plan: Plan, words: usize) -> usize
+    requires { ⌜ 2 ≤ words ⌝ }
+    ensures { λ r. ⌜ r ≡ cond (plan .parts) 4 ((words - 2) / 4) ⌝ }
+{
+    if plan.parts { 4 } else { (words - 2) / 4 }
+}
+
+pub fn back_doubles(plan: Plan, words: usize, p: usize) -> usize
+    requires { ⌜ (plan .parts ≡ true → 22 + 2 * p ≤ words) ⌝ }
+    ensures { λ r. ⌜ r ≡ cond (plan .parts) ((words - 22 - 2 * p) / 4) 0 ⌝ }
+{
+    if plan.parts {
+        (words - 22 - 2 * p) / 4
+    } else {
+        0
+    }
+}
