@@ -1,1 +1,2 @@
+-- What reading gives for the encoding of a shape, stated for a reader.
 pub mod ReadBack

@@ -1,25 +1,26 @@
--- What reading gives for the paper's encoding of a shape: that shape, its m values raised. For every taken kind at once.
+-- What reading gives for the paper's encoding of a shape: that shape, m raised.
 use mathlib.Core.Path.{_≡_}
-use mathlib.Core.Bool.{Bool, true, false, cond}
-use mathlib.Core.List.{List, [], _∷_, map, flatten}
+use mathlib.Core.Bool.{true}
+use mathlib.Core.List.{List, [], map, flatten}
 use mathlib.Core.Option.{Option, none, some}
 use Prim.Native.Nat.{ℕ, _+_, _*_, _-_, _^_, _≤_, _<_}
 use lib.Ieee.{Float, binary64, ofBits, ofInt}
 use lib.IntN.{pos}
-use lib.ListN.{length, take, drop}
+use lib.ListN.{length, getD, drop}
 use Rattle.format.specs.declared.kinds.Kind.{Kind}
 use Rattle.format.specs.declared.units.Bytes.{Bytes}
+use Rattle.format.specs.Bytes.{field}
 use Rattle.format.specs.Encoding.{Box, content, shapeWords}
 use Rattle.format.specs.Said.{gives}
-use Rattle.format.specs.Shapes.{Point, Measure, Parts, Shape, null, point, parted, partsIn, pointsIn, there, OfKind}
+use Rattle.format.specs.Shapes.{Measure, Parts, Shape, null, point, parted, there, OfKind}
 use Rattle.format.specs.WellFormed.{WellFormed, coordinates}
 use Rattle.multipart.specs.declared.Body.{Body}
 use Rattle.multipart.specs.declared.Range.{Range}
 use Rattle.multipart.specs.Body.{noRange, raised, countsIn, xyIn, zIn, mIn}
+use Rattle.meaning.specs.Consequences.{offsetOf, extentOf}
 use Rattle.record.specs.declared.Wanted.the-variants as Wants
-use Rattle.record.specs.Reading.{Shaped, nullShape, pointShape, partsShape, recordOf}
+use Rattle.record.specs.Reading.{Shaped, nullShape, pointShape, partsShape, codeIn, kindAt, recordOf}
 use Rattle.rules.specs.Meaning.{TakenKind, FileOf}
-use Rattle.rules.specs.Rules.{bigAt}
 
 -- the double with these bits
 abbrev pub value : ℕ → Float
@@ -69,23 +70,45 @@ Roomy (parted s) counts xy zs ms =
     × (there (s .z) ≡ true → length (flatten (s .parts)) ≤ zs)
     × (there (s .m) ≡ true → length (flatten (s .parts)) ≤ ms)
 
--- its content has at most 2,147,483,647 bytes
+-- what the stores get, by the content: of a shape with parts its tables, m raised
+abbrev pub StoresShape : Shape → List ℕ → Type 0
+StoresShape null bytes = Unit {0}
+StoresShape (point p z m) bytes = Unit {0}
+StoresShape (parted s) bytes =
+    (countsIn (drop 4 bytes) ≡ countsOfParts s)
+    × (xyIn (drop 4 bytes) ≡ xyOfParts s)
+    × (zIn (there (s .z)) (drop 4 bytes) ≡ valuesOf (s .z))
+    × (mIn (there (s .z)) (there (s .m)) (drop 4 bytes) ≡ map raised (valuesOf (s .m)))
+
+-- Reading these bytes with this size and no wanted kind finds the kind and gives the shape, where the stores have room for it.
+pub record ReadsShape (k : Kind) (s : Shape) (size : Bytes) (bytes : List ℕ) : Type 0 where
+  pub kind-is : kindAt (codeIn bytes) ≡ some k
+  pub answer : (counts xy zs ms : ℕ) → Roomy s counts xy zs ms → recordOf Wants.Any size bytes counts xy zs ms ≡ gives (shapedAs k s)
+  pub stores : StoresShape s bytes
+
+-- ---- the encoding of a well-formed shape of a taken kind, whose content has at most 2,147,483,647 bytes
+
+abbrev pub Small : Shape → Type 0
+Small s = 2 * shapeWords s < 2 ^ 31
+
 abbrev pub size : Shape → Bytes
 size s = record { 0 = pos (2 * shapeWords s) }
 
--- Given the encoding of a well-formed shape of a taken kind, reading with no wanted kind gives that shape, and the stores get its tables, m raised.
-pub record ReadsShape (k : Kind) (s : Shape) : Type 0 where
-  pub answer : (counts xy zs ms : ℕ) → Roomy s counts xy zs ms → recordOf Wants.Any (size s) (content k s) counts xy zs ms ≡ gives (shapedAs k s)
-
-abbrev pub StoresParts : Kind → Parts → Type 0
-StoresParts k s =
-    (countsIn (drop 4 (content k (parted s))) ≡ countsOfParts s)
-    × (xyIn (drop 4 (content k (parted s))) ≡ xyOfParts s)
-    × (zIn (there (s .z)) (drop 4 (content k (parted s))) ≡ valuesOf (s .z))
-    × (mIn (there (s .z)) (there (s .m)) (drop 4 (content k (parted s))) ≡ map raised (valuesOf (s .m)))
+abbrev pub StoresBack : Type 0
+StoresBack = (k : Kind) (s : Parts) → OfKind k (parted s) → WellFormed k (parted s) → Small (parted s) → StoresShape (parted s) (content k (parted s))
 
 abbrev pub ReadsBack : Type 0
-ReadsBack = (k : Kind) (s : Shape) → TakenKind k → OfKind k s → WellFormed k s → 2 * shapeWords s < 2 ^ 31 → ReadsShape k s
+ReadsBack = (k : Kind) (s : Shape) → TakenKind k → OfKind k s → WellFormed k s → Small s → ReadsShape k s (size s) (content k s)
 
-abbrev pub StoresBack : Type 0
-StoresBack = (k : Kind) (s : Parts) → TakenKind k → OfKind k (parted s) → WellFormed k (parted s) → 2 * shapeWords (parted s) < 2 ^ 31 → StoresParts k s
+-- ---- an accepted pair: record k stands where index entry k says, and has that length
+
+abbrev pub sizeAt : ℕ → List ℕ → Bytes
+sizeAt k shx = record { 0 = pos (2 * extentOf k shx) }
+
+abbrev pub contentAt : ℕ → List ℕ → List ℕ → List ℕ
+contentAt k shp shx = field (2 * extentOf k shx) (2 * offsetOf k shx + 8) shp
+
+abbrev pub ReadsRecords : Type 0
+ReadsRecords =
+    (kind : Kind) (box : Box) (ss : List Shape) (shp shx : List ℕ) → FileOf kind box ss shp shx → (k : ℕ) → 1 ≤ k → k ≤ length ss
+    → Small (getD ss (k - 1) null) → ReadsShape kind (getD ss (k - 1) null) (sizeAt k shx) (contentAt k shp shx)

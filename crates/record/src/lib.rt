@@ -1,6 +1,19 @@
 // Reading a record: dispatch by kind, Null, points, and bodies with parts.
+ghost use mathlib.Core.Path.{_≡_};
+ghost use lib.ListN.{length, drop};
+ghost use Rattle.format.specs.Lengths.{formOf};
+ghost use Rattle.record.specs.Reading.{byForm, ReadsRecord};
+ghost use Rattle.record.specs.Steps.{Takes, Reads};
+use format::kinds::Kind;
+use format::lengths::Lengths;
 use format::units::Bytes;
+use front::Front;
 use multipart::Body;
+
+mod front;
+mod parts;
+mod points;
+mod sizes;
 
 // The kind that a typed read wants; `Any` takes each taken one.
 pub enum Wanted {
@@ -27,4 +40,47 @@ pub enum RecordAnswer {
     Mismatch(i32, i32),
     Room(usize, usize),
     NotTaken(i32),
+}
+
+// The shape of a taken kind.
+fn read_shape(
+    s: &[u8],
+    size: Bytes,
+    k: Kind,
+    l: Lengths,
+    counts: &mut [u32],
+    xy: &mut [f64],
+    zs: &mut [f64],
+    ms: &mut [f64],
+) -> RecordAnswer
+    requires { ⌜ Takes size (now s) k l ⌝ }
+    ensures { λ r. ⌜ Reads (byForm (formOf k) k size (now (s .entry)) (length (now (counts .entry))) (length (now (xy .entry))) (length (now (zs .entry))) (length (now (ms .entry)))) (k .z) (drop 4 (now (s .entry))) (now (counts .entry)) (now (xy .entry)) (now (zs .entry)) (now (ms .entry)) r (now (counts .exit)) (now (xy .exit)) (now (zs .exit)) (now (ms .exit)) ⌝ }
+{
+    if k.code == 0 {
+        return RecordAnswer::Null;
+    }
+    let code = fields::le_i32_at(s, 0);
+    if k.parts {
+        parts::read_parts(code, k, l, size, &s[4..], counts, xy, zs, ms)
+    } else {
+        points::read_point(s, code, k, l, size)
+    }
+}
+
+// The shape of a record, from its content and the size that its header gives.
+pub fn read_record(
+    s: &[u8],
+    size: Bytes,
+    wanted: Wanted,
+    counts: &mut [u32],
+    xy: &mut [f64],
+    zs: &mut [f64],
+    ms: &mut [f64],
+) -> RecordAnswer
+    ensures { λ r. ⌜ ReadsRecord wanted size (now (s .entry)) (now (counts .entry)) (now (xy .entry)) (now (zs .entry)) (now (ms .entry)) r (now (counts .exit)) (now (xy .exit)) (now (zs .exit)) (now (ms .exit)) ⌝ }
+{
+    match front::judge_front(s, size, wanted) {
+        Front::Refused(r) => r,
+        Front::On(k, l) => read_shape(s, size, k, l, counts, xy, zs, ms),
+    }
 }

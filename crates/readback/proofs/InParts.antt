@@ -1,0 +1,185 @@
+-- What the definitions of a body find in the bytes of a shape with parts: its own numbers of parts and points, its tables, each at its place.
+use mathlib.Core.Path.{_≡_, refl, ap, _∙_}
+use mathlib.Core.Bool.{Bool, true, false, cond}
+use mathlib.Core.List.{List, _++_, map, flatten}
+use Prim.Native.Nat.{ℕ, _+_, _*_, _^_, _<_}
+use native.Mathlib.Nat.{zero-add}
+use native.Mathlib.Omega.{arith}
+use lib.IntN.{pos}
+use lib.ListN.{length}
+use mir.Syntax.{w32}
+use mir.Val.{toZ}
+use Rattle.format.specs.declared.kinds.Kind.{Kind}
+use Rattle.format.specs.Bytes.{leBytes}
+use Rattle.format.specs.Encoding.{startsFrom, shapeBytes, shapeWords}
+use Rattle.format.specs.Numbers.{leI32}
+use Rattle.format.specs.Shapes.{Parts, parted, there, PartsOf}
+use Rattle.format.specs.WellFormed.{coordinates, PartsWellFormed}
+use Rattle.format.proofs.ByteLaws.{length-leBytes}
+use Rattle.multipart.specs.Body.{differencesIn, countsIn, pointsIn, pairsAt, zAt, mAt, raised, xyIn, zIn, mIn}
+use Rattle.multipart.specs.Parts.{countOf, startsAt}
+use Rattle.meaning.proofs.Cuts.{length-startsFrom, fit-starts}
+use Rattle.meaning.proofs.Doubles.{measured, count, writeIf}
+use Rattle.meaning.proofs.FiniteLaws.{finite-fit}
+use Rattle.meaning.proofs.Laid.{parts-words, boxDoubles, partsDoubles, parts-laid, length-shape}
+use Rattle.meaning.proofs.Pairs.{length-coordinates}
+use Rattle.meaning.proofs.Places.{Stands, all-behind, front, back}
+use Rattle.meaning.proofs.Runs.{run, run-append, length-run, numbers-back}
+use Rattle.readback.specs.ReadBack.{Small, countsOfParts, xyOfParts, valuesOf}
+use Rattle.readback.proofs.Counts.{lengths, starts-held, differences-back, counts-back, sum-back}
+use Rattle.readback.proofs.Measures.{laid, length-laid, values-back, map-cond}
+use Rattle.readback.proofs.Numbers.{i32-back, starts-are, doubles-back}
+
+-- its bytes behind the kind's field, its parts and its points
+abbrev pub bytes : Parts → List ℕ
+bytes s = shapeBytes (parted s)
+
+abbrev pub parts : Parts → ℕ
+parts s = length (s .parts)
+
+abbrev pub points : Parts → ℕ
+points s = length (flatten (s .parts))
+
+abbrev pub pairsPlace : Parts → ℕ
+pairsPlace s = 40 + 4 * parts s
+
+abbrev pub zPlace : Parts → ℕ
+zPlace s = pairsPlace s + 16 * points s
+
+abbrev pub mPlace : Parts → ℕ
+mPlace s = zPlace s + cond (there (s .z)) (16 + 8 * points s) 0
+
+-- a measure's bytes from its doubles
+measure-size : (flag : Bool) (n : ℕ) → 8 * cond flag (2 + n) 0 ≡ cond flag (16 + 8 * n) 0
+measure-size true n = omega arith
+measure-size false n = refl
+
+module _ (k : Kind) (s : Parts) (o : PartsOf k s) (v : PartsWellFormed k s) (small : Small (parted s)) where
+  -- ---- how long they are
+
+  words : shapeWords (parted s) ≡ 22 + 2 * parts s + 4 * count (measured (points s)) (points s) (there (s .z)) (there (s .m))
+  unfolding shapeWords
+  words = parts-words (there (s .z)) (there (s .m)) (parts s) (points s)
+
+  pub size : length (bytes s) ≡ mPlace s + cond (there (s .m)) (16 + 8 * points s) 0
+  size = omega (arith, length-shape k (parted s) o, words, measure-size (there (s .z)) (points s), measure-size (there (s .m)) (points s))
+
+  parts-held : parts s < 2 ^ 31
+  parts-held = omega (arith, words)
+
+  pub points-held : points s < 2 ^ 31
+  points-held = omega (arith, words)
+
+  -- ---- where each of them stands
+
+  abbrev starts : List ℕ
+  starts = startsFrom 0 (s .parts)
+
+  abbrev behind36 : List ℕ
+  behind36 = run 4 starts ++ run 8 (partsDoubles s)
+
+  abbrev behind32 : List ℕ
+  behind32 = leBytes 4 (points s) ++ behind36
+
+  at0 : Stands 0 (run 8 (boxDoubles (s .box)) ++ (leBytes 4 (parts s) ++ behind32)) (bytes s)
+  at0 = all-behind 0 _ (bytes s) (parts-laid s)
+
+  pub at-box : Stands 0 (run 8 (boxDoubles (s .box))) (bytes s)
+  at-box = front 0 32 (run 8 (boxDoubles (s .box))) (leBytes 4 (parts s) ++ behind32) (bytes s) (length-run 8 (boxDoubles (s .box))) at0
+
+  at32 : Stands 32 (leBytes 4 (parts s) ++ behind32) (bytes s)
+  at32 = back 0 32 (run 8 (boxDoubles (s .box))) (leBytes 4 (parts s) ++ behind32) (bytes s) (length-run 8 (boxDoubles (s .box))) at0
+
+  at36 : Stands 36 (leBytes 4 (points s) ++ behind36) (bytes s)
+  at36 = back 32 4 (leBytes 4 (parts s)) behind32 (bytes s) (length-leBytes 4 (parts s)) at32
+
+  at40 : Stands 40 behind36 (bytes s)
+  at40 = back 36 4 (leBytes 4 (points s)) behind36 (bytes s) (length-leBytes 4 (points s)) at36
+
+  length-starts : length (run 4 starts) ≡ 4 * parts s
+  length-starts = rw (length-run 4 starts, length-startsFrom 0 (s .parts))
+
+  abbrev measures : List ℕ
+  measures = writeIf (measured (points s)) (s .z) ++ writeIf (measured (points s)) (s .m)
+
+  length-pairs : length (run 8 (coordinates (flatten (s .parts)))) ≡ 16 * points s
+  length-pairs = rw (length-run 8 (coordinates (flatten (s .parts))), length-coordinates (flatten (s .parts))) (omega arith)
+
+  at-doubles : Stands (pairsPlace s) (run 8 (coordinates (flatten (s .parts))) ++ run 8 measures) (bytes s)
+  unfolding partsDoubles
+  at-doubles =
+      rw (← run-append 8 (coordinates (flatten (s .parts))) measures)
+      (back 40 (4 * parts s) (run 4 starts) (run 8 (partsDoubles s)) (bytes s) length-starts at40)
+
+  at-measures : Stands (zPlace s) (laid (points s) (s .z) ++ laid (points s) (s .m)) (bytes s)
+  at-measures =
+      rw (← run-append 8 (writeIf (measured (points s)) (s .z)) (writeIf (measured (points s)) (s .m)))
+      (back (pairsPlace s) (16 * points s) (run 8 (coordinates (flatten (s .parts)))) (run 8 measures) (bytes s) length-pairs at-doubles)
+
+  length-z : length (laid (points s) (s .z)) ≡ cond (there (s .z)) (16 + 8 * points s) 0
+  length-z = length-laid (points s) (s .z) (o .covers-z)
+
+  pub at-z : Stands (zPlace s) (laid (points s) (s .z)) (bytes s)
+  at-z = front (zPlace s) _ (laid (points s) (s .z)) (laid (points s) (s .m)) (bytes s) length-z at-measures
+
+  pub at-m : Stands (mPlace s) (laid (points s) (s .m)) (bytes s)
+  at-m = back (zPlace s) _ (laid (points s) (s .z)) (laid (points s) (s .m)) (bytes s) length-z at-measures
+
+  -- ---- the counts
+
+  pub parts-is : leI32 32 (bytes s) ≡ pos (parts s)
+  parts-is = i32-back (parts s) 32 (bytes s) parts-held (front 32 4 (leBytes 4 (parts s)) behind32 (bytes s) (length-leBytes 4 (parts s)) at32)
+
+  pub number-is : leI32 36 (bytes s) ≡ pos (points s)
+  number-is = i32-back (points s) 36 (bytes s) points-held (front 36 4 (leBytes 4 (points s)) behind36 (bytes s) (length-leBytes 4 (points s)) at36)
+
+  starts-back : startsAt (parts s) 40 (bytes s) ≡ map pos starts
+  starts-back =
+      let fit = fit-starts 0 (s .parts) (omega (arith, points-held)) in
+      let stand = front 40 (4 * parts s) (run 4 starts) (run 8 (partsDoubles s)) (bytes s) length-starts at40 in
+      rw (← length-startsFrom 0 (s .parts))
+      (starts-are (length starts) 40 (bytes s)
+      ∙ (ap (map (toZ w32)) (numbers-back 4 40 starts (bytes s) fit stand) ∙ starts-held 0 (s .parts) (omega (arith, points-held))))
+
+  pub differences-are : differencesIn (bytes s) ≡ lengths (s .parts)
+  differences-are = rw (parts-is, number-is, starts-back) (rw zero-add at (differences-back 0 (s .parts)))
+
+  pub counts-are : countsIn (bytes s) ≡ countsOfParts s
+  unfolding countsIn
+  counts-are = ap (map countOf) differences-are ∙ counts-back (s .parts) points-held
+
+  pub points-are : pointsIn (bytes s) ≡ points s
+  unfolding pointsIn
+  points-are = rw counts-are (sum-back (s .parts))
+
+  -- ---- the places, and the tables
+
+  pub pairs-place : pairsAt (bytes s) ≡ pairsPlace s
+  unfolding pairsAt
+  pairs-place = rw parts-is
+
+  pub z-place : zAt (bytes s) ≡ zPlace s
+  unfolding zAt
+  z-place = rw (pairs-place, points-are)
+
+  pub m-place : mAt (there (s .z)) (bytes s) ≡ mPlace s
+  unfolding mAt
+  m-place = rw (z-place, points-are)
+
+  pub xy-are : xyIn (bytes s) ≡ xyOfParts s
+  unfolding xyIn
+  xy-are =
+      rw (points-are, pairs-place)
+      (doubles-back (pairsPlace s) (2 * points s) (coordinates (flatten (s .parts))) (bytes s) (length-coordinates (flatten (s .parts)))
+      (finite-fit (coordinates (flatten (s .parts))) (v .points))
+      (front (pairsPlace s) (16 * points s) (run 8 (coordinates (flatten (s .parts)))) (run 8 measures) (bytes s) length-pairs at-doubles))
+
+  pub z-are : zIn (there (s .z)) (bytes s) ≡ valuesOf (s .z)
+  unfolding zIn
+  z-are = rw (points-are, z-place) (values-back (points s) (zPlace s) (bytes s) (s .z) (o .covers-z) (v .z) at-z)
+
+  pub m-are : mIn (there (s .z)) (there (s .m)) (bytes s) ≡ map raised (valuesOf (s .m))
+  unfolding mIn
+  m-are =
+      rw (points-are, m-place)
+      (map-cond raised (there (s .m)) _ ∙ ap (map raised) (values-back (points s) (mPlace s) (bytes s) (s .m) (o .covers-m) (v .m) at-m))

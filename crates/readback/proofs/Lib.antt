@@ -1,0 +1,11 @@
+-- That reading the encoding of a shape gives the shape back: ReadsBack has the theorems, Records what follows for an accepted pair.
+mod Bodies
+mod Contents
+mod Counts
+mod InParts
+mod Measures
+mod Numbers
+mod Points
+pub mod ReadsBack
+pub mod Records
+mod Sizes

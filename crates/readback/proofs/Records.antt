@@ -1,0 +1,34 @@
+-- What follows for an accepted pair: reading record k, where its index entry says, gives shape k.
+use mathlib.Core.Path.{_≡_, sym, ap, _∙_}
+use mathlib.Core.List.{List, [], _∷_}
+use Prim.Native.Nat.{ℕ, zero, suc, _+_, _*_, _-_, _<_}
+use native.Mathlib.Omega.{arith}
+use lib.ListN.{length, getD}
+use Rattle.format.specs.declared.kinds.Kind.{Kind}
+use Rattle.format.specs.Encoding.{content, shapeWords}
+use Rattle.format.specs.Shapes.{Shape, null, OfKind}
+use Rattle.format.specs.WellFormed.{WellFormed}
+use Rattle.format.proofs.ByteLaws.{length-field}
+use Rattle.rules.specs.Meaning.{AllWellFormed}
+use Rattle.meaning.specs.Consequences.{offsetOf, extentOf}
+use Rattle.meaning.proofs.EachRecord.{kind-at}
+use Rattle.meaning.proofs.Entries.{entry-names, record-holds}
+use Rattle.meaning.proofs.Record.{length-content}
+use Rattle.readback.specs.ReadBack.{ReadsRecords, contentAt}
+use Rattle.readback.proofs.ReadsBack.{reads-back}
+
+well-at : (k : Kind) (ss : List Shape) (i : ℕ) → AllWellFormed k ss → i < length ss → WellFormed k (getD ss i null)
+well-at k [] i f h = absurd (omega arith)
+well-at k (s ∷ ss) zero f h = f .1
+well-at k (s ∷ ss) (suc i) f h = well-at k ss i (f .2) (omega arith)
+
+pub reads-records : ReadsRecords
+reads-records kind box ss shp shx f k h j small =
+    let s : Shape = getD ss (k - 1) null in
+    let o : OfKind kind s = kind-at kind ss (k - 1) (f .fine) (omega arith) in
+    let holds : contentAt k shp shx ≡ content kind s = record-holds kind box ss shp shx f k h j in
+    let within = entry-names kind box ss shp shx f k h j .record-within in
+    let long = length-field (2 * extentOf k shx) (2 * offsetOf k shx + 8) shp (omega arith) in
+    let extent : 2 * extentOf k shx ≡ 2 * shapeWords s = sym long ∙ (ap length holds ∙ length-content kind s o) in
+    let back = reads-back kind s (f .kind) o (well-at kind ss (k - 1) (f .fine) (omega arith)) (omega arith) in
+    rw (holds, extent) back

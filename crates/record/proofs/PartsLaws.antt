@@ -1,0 +1,112 @@
+-- Laws of bodies behind the kind's field: an answer of the body is the record's, its offset moved by 4.
+use mathlib.Core.Path.{_≡_, refl, sym, ap, _∙_, subst}
+use mathlib.Core.Bool.{Bool, true, false, cond}
+use mathlib.Core.List.{List}
+use Prim.Native.Nat.{ℕ, _+_}
+use lib.Ieee.{Float}
+use lib.IntN.{ℤ}
+use lib.ListN.{length}
+use Rattle.format.specs.declared.kinds.Kind.{Kind}
+use Rattle.format.specs.declared.units.Bytes.{Bytes}
+use Rattle.format.specs.Said.{Said, gives, wrongSize}
+use Rattle.multipart.specs.declared.Body.{Body}
+use Rattle.multipart.specs.declared.BodyAnswer.{BodyAnswer}
+use Rattle.multipart.specs.declared.BodyAnswer.the-variants as BodyIs
+use Rattle.multipart.specs.declared.CountsAnswer.{CountsAnswer}
+use Rattle.multipart.specs.declared.CountsAnswer.the-variants as CountsIs
+use Rattle.multipart.specs.Answers.{Two, saidCounts, countsOf, saidBody, ReadsBody}
+use Rattle.record.specs.declared.RecordAnswer.{RecordAnswer}
+use Rattle.record.specs.declared.RecordAnswer.the-variants as Is
+use Rattle.record.specs.declared.sizes.Sized.{Sized}
+use Rattle.record.specs.declared.sizes.Sized.the-variants as SizedIs
+use Rattle.record.specs.Reading.{Shaped, partsShape, moved, andThen, hasM, sizeRight, saidRecord, stored}
+use Rattle.record.specs.Steps.{storesNone, Answers, Reads, restFrom, partsFrom, two, Sizes}
+
+-- what the record answers where the body answers so
+abbrev pub after : ℤ → Bool → BodyAnswer → RecordAnswer
+after code m (BodyIs.Whole body) = Is.Parts code m body
+after code m (BodyIs.Short at) = Is.Short (4 + at)
+after code m (BodyIs.Size at) = Is.Size (4 + at)
+after code m (BodyIs.Room p n) = Is.Room p n
+
+module _ (code : ℤ) (z m : Bool) (b counts : List ℕ) (xy zs ms : List Float) (counts′ : List ℕ) (xy′ zs′ ms′ : List Float) where
+  carried : (r : BodyAnswer) → saidRecord (after code m r) ≡ andThen (moved (saidBody r)) (λ body. gives (partsShape code m body))
+  carried (BodyIs.Whole body) = refl
+  carried (BodyIs.Short at) = refl
+  carried (BodyIs.Size at) = refl
+  carried (BodyIs.Room p n) = refl
+
+  rest-says : (r : BodyAnswer) → ReadsBody z m b counts xy zs ms r counts′ xy′ zs′ ms′ → saidRecord (after code m r) ≡ restFrom code z m b (length counts) (length xy) (length zs) (length ms)
+  unfolding restFrom
+  rest-says r h = carried r ∙ ap (λ (x : Said Body). andThen (moved x) (λ body. gives (partsShape code m body))) (h .says)
+
+  reads : (r : BodyAnswer) → ReadsBody z m b counts xy zs ms r counts′ xy′ zs′ ms′ → Reads (restFrom code z m b (length counts) (length xy) (length zs) (length ms)) z b counts xy zs ms (after code m r) counts′ xy′ zs′ ms′
+  reads (BodyIs.Whole body) h = record { says = rest-says (BodyIs.Whole body) h; counts-are = h .counts-are; xy-are = h .xy-are; z-are = h .z-are; m-are = h .m-are }
+  reads (BodyIs.Short at) h = record { says = rest-says (BodyIs.Short at) h; counts-are = h .counts-are; xy-are = h .xy-are; z-are = h .z-are; m-are = h .m-are }
+  reads (BodyIs.Size at) h = record { says = rest-says (BodyIs.Size at) h; counts-are = h .counts-are; xy-are = h .xy-are; z-are = h .z-are; m-are = h .m-are }
+  reads (BodyIs.Room p n) h = record { says = rest-says (BodyIs.Room p n) h; counts-are = h .counts-are; xy-are = h .xy-are; z-are = h .z-are; m-are = h .m-are }
+
+  pub rest-reads : (r r′ : BodyAnswer) → r ≡ r′ → ReadsBody z m b counts xy zs ms r counts′ xy′ zs′ ms′ → Reads (restFrom code z m b (length counts) (length xy) (length zs) (length ms)) z b counts xy zs ms (after code m r′) counts′ xy′ zs′ ms′
+  rest-reads r r′ e h = reads r′ (rw e at h)
+
+-- ---- an answer that stores nothing
+
+stored-none : {A : Type 0} (r : RecordAnswer) (store : List A) (values : Bool → List A) → storesNone r ≡ true → store ≡ stored r store values
+stored-none Is.Null store values e = refl
+stored-none (Is.Point code p) store values e = refl
+stored-none (Is.Parts code m body) store values e = cc
+stored-none (Is.Short at) store values e = refl
+stored-none (Is.Size at) store values e = refl
+stored-none (Is.Unknown code) store values e = refl
+stored-none (Is.Mismatch wanted found) store values e = refl
+stored-none (Is.Room p n) store values e = refl
+stored-none (Is.NotTaken code) store values e = refl
+
+pub answered : (said : Said Shaped) (z : Bool) (b counts : List ℕ) (xy zs ms : List Float) (r : RecordAnswer) → Answers said r → Reads said z b counts xy zs ms r counts xy zs ms
+answered said z b counts xy zs ms r h =
+    record {
+      says = h .says;
+      counts-are = stored-none r counts _ (h .none);
+      xy-are = stored-none r xy _ (h .none);
+      z-are = stored-none r zs _ (h .none);
+      m-are = stored-none r ms _ (h .none);
+    }
+
+-- ---- a body whose size is not judged yet
+
+module _ (code : ℤ) (k : Kind) (size : Bytes) (b : List ℕ) (counts xy zs ms : ℕ) where
+  abbrev next : Two → Said Shaped
+  next t = cond (sizeRight k size t) (restFrom code (k .z) (hasM k size t) b counts xy zs ms) (wrongSize 0)
+
+  abbrev whole : Said Shaped
+  whole = partsFrom code k size b counts xy zs ms
+
+  from-counts : (r : Said Two) → r ≡ countsOf b → andThen (moved r) next ≡ whole
+  unfolding partsFrom
+  from-counts r e = ap (λ (x : Said Two). andThen (moved x) next) e
+
+  pub counts-short : (at : ℕ) → saidCounts (CountsIs.Short at) ≡ countsOf b → Answers whole (Is.Short (4 + at))
+  counts-short at e = record { says = from-counts _ e; none = refl }
+
+  pub counts-size : (at : ℕ) → saidCounts (CountsIs.Size at) ≡ countsOf b → Answers whole (Is.Size (4 + at))
+  counts-size at e = record { says = from-counts _ e; none = refl }
+
+  module _ (p n : ℕ) (e : saidCounts (CountsIs.Are p n) ≡ countsOf b) where
+    pub size-wrong : sizeRight k size (two p n) ≡ false → Answers whole (Is.Size 0)
+    size-wrong q = record { says = ap (λ (x : Bool). cond x (restFrom code (k .z) (hasM k size (two p n)) b counts xy zs ms) (wrongSize 0)) (sym q) ∙ from-counts _ e; none = refl }
+
+    pub size-settles : (m : Bool) → sizeRight k size (two p n) ≡ true → hasM k size (two p n) ≡ m → restFrom code (k .z) m b counts xy zs ms ≡ whole
+    size-settles m q h =
+        ap (λ (x : Bool). restFrom code (k .z) x b counts xy zs ms) (sym h)
+        ∙ (ap (λ (x : Bool). cond x (restFrom code (k .z) (hasM k size (two p n)) b counts xy zs ms) (wrongSize 0)) (sym q) ∙ from-counts _ e)
+
+-- what is read is read as a whole
+pub reads-as : (code code′ : ℤ) (m : Bool) (said : Said Shaped) (z : Bool) (b counts : List ℕ) (xy zs ms : List Float) (r : RecordAnswer) (counts′ : List ℕ) (xy′ zs′ ms′ : List Float) → code′ ≡ code → restFrom code z m b (length counts) (length xy) (length zs) (length ms) ≡ said → Reads (restFrom code′ z m b (length counts) (length xy) (length zs) (length ms)) z b counts xy zs ms r counts′ xy′ zs′ ms′ → Reads said z b counts xy zs ms r counts′ xy′ zs′ ms′
+reads-as code code′ m said z b counts xy zs ms r counts′ xy′ zs′ ms′ f e h =
+    record {
+      says = h .says ∙ (ap (λ (x : ℤ). restFrom x z m b (length counts) (length xy) (length zs) (length ms)) f ∙ e);
+      counts-are = h .counts-are;
+      xy-are = h .xy-are;
+      z-are = h .z-are;
+      m-are = h .m-are;
+    }

@@ -1,0 +1,154 @@
+-- Laws of sizes: what size minus 4 within i32 says of the size, and the size against a formula in words.
+use mathlib.Core.Path.{_≡_, refl, sym, ap, _∙_, subst}
+use mathlib.Core.Bool.{Bool, true, false, cond, _&&_, _||_}
+use Prim.Native.Nat.{ℕ, suc, _+_, _*_, _-_, _^_, _≤_, _<_}
+use native.Mathlib.Omega.{arith}
+use lib.Dec.{T, eqb, ltb}
+use lib.IntN.{ℤ, pos, negsuc, _+ℤ_, _-ℤ_}
+use lib.Signed.{ltZ, mag}
+use mir.Syntax.{w32, w64}
+use mir.Val.{SFits, toZ, ofZ}
+use mir.ValLaws.{toZ-ofZ}
+use borrow.Author.Tests.{lt-ltb, le-ltb, ltb-true, ltb-false, eq-eqb, ne-eqb, eqb-true, eqb-false}
+use Rattle.format.specs.declared.kinds.Kind.{Kind}
+use Rattle.format.specs.declared.lengths.Formula.{Formula}
+use Rattle.format.specs.declared.lengths.Lengths.{Lengths}
+use Rattle.format.specs.declared.lengths.Counted.{Counted}
+use Rattle.format.specs.declared.lengths.Counted.the-variants.{Is, Long}
+use Rattle.format.specs.declared.units.Bytes.{Bytes}
+use Rattle.format.specs.declared.units.Words.{Words}
+use Rattle.format.specs.Lengths.{parts, contentWords, lengthsFor, counted, heldWords}
+use Rattle.format.specs.Units.{sameInt, inI32, inBytes}
+use Rattle.format.proofs.UnitLaws.{doubled-fits, same-yes, same-no, same-bits}
+use Rattle.record.specs.Reading.{isWords, hasM, sizeRight}
+use Rattle.record.specs.Steps.{Held, wordsOf, two}
+
+-- ---- size minus 4
+
+small : (n : ℕ) → n < 4 → inI32 (pos n -ℤ pos 4) ≡ true
+small n h = rw (lt-ltb n 4 h) (lt-ltb (4 - suc n) (2 ^ 31) (omega arith))
+
+large : (n : ℕ) → 4 ≤ n → inI32 (pos n -ℤ pos 4) ≡ ltb (n - 4) (2 ^ 31)
+large n h = rw (le-ltb n 4 h)
+
+pub too-low : (z : ℤ) → ltZ z (negsuc 0x7fff_fffb) ≡ true → inI32 (z -ℤ pos 4) ≡ false
+too-low (pos n) e = absurd (subst T (sym e) tt)
+too-low (negsuc n) e =
+    let h : 0x7fff_fffb < n = ltb-true 0x7fff_fffb n e in
+    le-ltb (suc (n + 3)) (2 ^ 31) (omega arith)
+
+pub too-high : (z : ℤ) → ltZ (pos 0x8000_0003) z ≡ true → inI32 (z -ℤ pos 4) ≡ false
+too-high (pos n) e =
+    let h : 0x8000_0003 < n = ltb-true 0x8000_0003 n e in
+    large n (omega arith) ∙ le-ltb (n - 4) (2 ^ 31) (omega arith)
+too-high (negsuc n) e = absurd (subst T (sym e) tt)
+
+pub held : (z : ℤ) → ltZ z (negsuc 0x7fff_fffb) ≡ false → ltZ (pos 0x8000_0003) z ≡ false → inI32 (z -ℤ pos 4) ≡ true
+held (pos n) e f =
+    let h : n ≤ 0x8000_0003 = ltb-false 0x8000_0003 n f in
+    by (ltb n 4) refl h
+  where
+    by : (b : Bool) → ltb n 4 ≡ b → n ≤ 0x8000_0003 → inI32 (pos n -ℤ pos 4) ≡ true
+    by true e h = small n (ltb-true n 4 e)
+    by false e h = large n (ltb-false n 4 e) ∙ lt-ltb (n - 4) (2 ^ 31) (omega arith)
+held (negsuc n) e f =
+    let h : n ≤ 0x7fff_fffb = ltb-false 0x7fff_fffb n e in
+    lt-ltb (suc (n + 3)) (2 ^ 31) (omega arith)
+
+below : (n : ℕ) → inI32 (pos n -ℤ pos 4) ≡ true → n < 2 ^ 32
+below n e = by (ltb n 4) refl
+  where
+    by : (b : Bool) → ltb n 4 ≡ b → n < 2 ^ 32
+    by true t = let h : n < 4 = ltb-true n 4 t in omega arith
+    by false t =
+        let h : 4 ≤ n = ltb-false n 4 t in
+        let k : n - 4 < 2 ^ 31 = ltb-true (n - 4) (2 ^ 31) (sym (large n h) ∙ e) in
+        omega arith
+
+-- ---- the size in words
+
+module _ (size : Bytes) (h : Held size) where
+  not-long : (w : ℕ) → 2 ^ 31 ≤ w → isWords size w ≡ false
+  not-long w k =
+      same-no (size .0) (pos (2 * w))
+      (λ e. let f : 2 * w < 2 ^ 32 = below (2 * w) (subst (λ (z : ℤ). inI32 (z -ℤ pos 4) ≡ true) e h) in omega arith)
+
+  pub long-size : (f : Formula) (p n : ℕ) → Long ≡ counted f p n → false ≡ isWords size (wordsOf f p n)
+  unfolding counted
+  long-size f p n e = by (ltb (wordsOf f p n) (2 ^ 31)) refl e
+    where
+      by : (b : Bool) → ltb (wordsOf f p n) (2 ^ 31) ≡ b → Long ≡ cond b (Is (record { 0 = pos (wordsOf f p n) })) Long → false ≡ isWords size (wordsOf f p n)
+      by true t q = cc
+      by false t q = sym (not-long (wordsOf f p n) (ltb-false (wordsOf f p n) (2 ^ 31) t))
+
+-- a test of two numbers, from the test of their bits
+bits-same : (x y : ℤ) → SFits w64 x → SFits w64 y → eqb (ofZ w64 y) (ofZ w64 x) ≡ sameInt x y
+bits-same x y f g = by (eqb (ofZ w64 y) (ofZ w64 x)) refl
+  where
+    by : (b : Bool) → eqb (ofZ w64 y) (ofZ w64 x) ≡ b → b ≡ sameInt x y
+    by true t = sym (same-yes x y (same-bits x y f g (sym (eqb-true (ofZ w64 y) (ofZ w64 x) t))))
+    by false t = sym (same-no x y (λ e. eqb-false (ofZ w64 y) (ofZ w64 x) t (ap (ofZ w64) (sym e))))
+
+held-is : (w : Words) (n : ℕ) → Is w ≡ heldWords n → (n < 2 ^ 31) × (w ≡ record { 0 = pos n })
+held-is w n e = by (ltb n (2 ^ 31)) refl e
+  where
+    by : (b : Bool) → ltb n (2 ^ 31) ≡ b → Is w ≡ cond b (Is (record { 0 = pos n })) Long → (n < 2 ^ 31) × (w ≡ record { 0 = pos n })
+    by true t q = (ltb-true n (2 ^ 31) t, cc)
+    by false t q = let z : _≡_ {A = ℕ} 0 1 = cc in absurd (omega arith)
+
+-- the code compares the bits of the bytes that the words come to
+pub words-size : (size : Bytes) (f : Formula) (p n : ℕ) (w : Words) (b : Bytes) → SFits w64 (size .0) → Is w ≡ counted f p n → b ≡ inBytes w → eqb (ofZ w64 (b .0)) (ofZ w64 (size .0)) ≡ isWords size (wordsOf f p n)
+unfolding counted
+words-size size f p n w b s e g =
+    let h = held-is w (wordsOf f p n) e in
+    let d : b .0 ≡ pos (2 * wordsOf f p n) = ap (λ (x : Bytes). x .0) g ∙ (ap (λ (x : Words). x .0 +ℤ x .0) (h .1) ∙ ap pos (omega arith)) in
+    ap (λ (z : ℤ). eqb (ofZ w64 z) (ofZ w64 (size .0))) d ∙ bits-same (size .0) (pos (2 * wordsOf f p n)) s (record { sfits = omega (arith, h .0) })
+
+-- ---- the two formulas of a kind with parts
+
+module _ (k : Kind) (l : Lengths) (size : Bytes) (p n : ℕ) (e : l ≡ lengthsFor k parts) where
+  abbrev fits : Bool → Bool
+  fits m = isWords size (contentWords parts (k .z) m p n)
+
+  with-is : isWords size (wordsOf (l .with) p n) ≡ fits (k .m)
+  unfolding contentWords
+  with-is = ap (λ (x : Lengths). isWords size (wordsOf (x .with) p n)) e
+
+  without-is : isWords size (wordsOf (l .without) p n) ≡ fits false
+  unfolding contentWords
+  without-is = ap (λ (x : Lengths). isWords size (wordsOf (x .without) p n)) e
+
+  or-true : (a : Bool) → (a || true) ≡ true
+  or-true true = refl
+  or-true false = refl
+
+  -- with m
+  pub size-with : true ≡ isWords size (wordsOf (l .with) p n) → k .m ≡ true → (sizeRight k size (two p n) ≡ true) × (hasM k size (two p n) ≡ true)
+  size-with q m =
+      let f : fits true ≡ true = ap fits (sym m) ∙ sym (q ∙ with-is) in
+      (rw (m, f) (or-true (fits false)), rw (m, f))
+
+  -- of a kind that has none
+  pub size-plain : true ≡ isWords size (wordsOf (l .with) p n) → k .m ≡ false → (sizeRight k size (two p n) ≡ true) × (hasM k size (two p n) ≡ false)
+  size-plain q m =
+      let f : fits false ≡ true = ap fits (sym m) ∙ sym (q ∙ with-is) in
+      (rw f, rw m)
+
+  -- not the one with m
+  module _ (q : false ≡ isWords size (wordsOf (l .with) p n)) where
+    no-m : hasM k size (two p n) ≡ false
+    no-m = by (k .m) (sym (q ∙ with-is))
+      where
+        by : (m : Bool) → fits m ≡ false → (m && fits true) ≡ false
+        by true f = f
+        by false f = refl
+
+    pub size-without : true ≡ isWords size (wordsOf (l .without) p n) → (sizeRight k size (two p n) ≡ true) × (hasM k size (two p n) ≡ false)
+    size-without r =
+        let f : fits false ≡ true = sym (r ∙ without-is) in
+        (rw f, no-m)
+
+    pub size-neither : false ≡ isWords size (wordsOf (l .without) p n) → sizeRight k size (two p n) ≡ false
+    size-neither r =
+        let f : fits false ≡ false = sym (r ∙ without-is) in
+        rw f no-m

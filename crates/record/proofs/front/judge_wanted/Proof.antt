@@ -1,0 +1,35 @@
+-- `record::front::judge_wanted` meets its contract: no kind has no tests, and a kind is judged by its code.
+use mathlib.Core.Path.{_≡_, refl, sym, ap, _∙_, subst}
+use mir.Syntax.{w32}
+use mir.Val.{SFits}
+use borrow.Author.Needs.{needs}
+use Rattle.format.proofs.SignLaws.{back}
+use Rattle.record.specs.declared.Wanted.{Wanted}
+use Rattle.record.specs.Reading.{wantedTests}
+use Rattle.record.specs.Steps.{Passes, Judges}
+use Rattle.record.proofs.front.judge_wanted.Statement.{statement}
+use Rattle.record.proofs.front.judge_wanted.Tie as tie
+
+code-fits : (c : tie.After-known-told) → SFits w32 (c .before .wanted .given .0 .0)
+code-fits c = record { sfits = c .known-told .given .0 .1 }
+
+enum-told : tie.Need-enum-told
+enum-told c = search needs
+
+enum-known-wanted : tie.Need-enum-known-wanted
+enum-known-wanted c = search needs
+
+judge-code-requires : tie.Need-judge-code-requires
+judge-code-requires c κs = search needs
+
+returns : tie.Need-returns
+returns c = subst (λ (w : Wanted). Passes (wantedTests w)) (sym (c .enum-told .given .1)) (λ a. refl)
+
+returns-2 : tie.Need-returns-2
+returns-2 c =
+    let w = c .before .before in
+    subst (λ (x : Wanted). Judges (wantedTests x) (c .judge-code .result)) (sym (w .wanted .given .1)) (rw (back w32 (w .wanted .given .0 .0) (code-fits (c .before) .sfits)) at (c .judge-code .ensures))
+
+pub judge-wanted-spec : {M : Type 1} → statement M
+judge-wanted-spec =
+    tie.close (tie.spec enum-told enum-known-wanted judge-code-requires returns returns-2)

@@ -1,0 +1,45 @@
+-- `record::sizes::has_words` meets its contract: the words are compared as bytes, and a long content is no size that is held.
+use mathlib.Core.Path.{sym, _∙_}
+use mir.Syntax.{w64}
+use mir.Val.{SFits}
+use borrow.Author.Needs.{needs}
+use Rattle.record.proofs.SizeLaws.{long-size, words-size}
+use Rattle.record.proofs.sizes.has_words.Statement.{statement}
+use Rattle.record.proofs.sizes.has_words.Tie as tie
+
+size-fits : (c : tie.Start) → SFits w64 (c .args .size .0)
+size-fits c = search needs
+
+content-words-requires : tie.Need-content-words-requires
+content-words-requires c κs = search needs
+
+enum-told : tie.Need-enum-told
+enum-told c = search needs
+
+enum-known-words : tie.Need-enum-known-words
+enum-known-words c = search needs
+
+to-bytes-requires : tie.Need-to-bytes-requires
+to-bytes-requires c κs = search needs
+
+returns : tie.Need-returns
+returns c =
+    let s = c .before .before .before in
+    long-size (s .args .size) (s .pre) _ _ _ (sym (c .enum-told .given .1) ∙ c .before .before .content-words .ensures)
+
+returns-2 : tie.Need-returns-2
+returns-2 c =
+    let w = c .before .before .before .before .before .before in
+    let s = w .before .before .before in
+    words-size (s .args .size) _ _ _ _ _ (size-fits s) (sym (w .words .given .1) ∙ w .before .before .content-words .ensures) (c .before .before .before .before .to-bytes .ensures)
+
+pub has-words-spec : {M : Type 1} → statement M
+has-words-spec =
+    tie.close
+    (tie.spec
+    content-words-requires
+    enum-told
+    enum-known-words
+    to-bytes-requires
+    returns
+    returns-2)

@@ -1,0 +1,124 @@
+-- What the steps of reading a record find, for their contracts: tests whatever follows them, a taken kind, a size, and the stores.
+use mathlib.Core.Path.{_≡_}
+use mathlib.Core.Bool.{Bool, true, false, cond, _&&_}
+use mathlib.Core.List.{List, [], _∷_, _++_}
+use mathlib.Core.Option.{Option, some}
+use Prim.Native.Nat.{ℕ, _+_, _*_, _≤_}
+use lib.Ieee.{Float, binary64, ofInt}
+use lib.IntN.{ℤ, pos, _-ℤ_}
+use lib.ListN.{length}
+use Rattle.format.specs.declared.kinds.Kind.{Kind}
+use Rattle.format.specs.declared.lengths.Formula.{Formula}
+use Rattle.format.specs.declared.lengths.Lengths.{Lengths}
+use Rattle.format.specs.declared.units.Bytes.{Bytes}
+use Rattle.format.specs.Kinds.{known}
+use Rattle.format.specs.Lengths.{lengthsOf}
+use Rattle.format.specs.Numbers.{leF64}
+use Rattle.format.specs.Order.{first, whole}
+use Rattle.format.specs.Said.{Said, gives, short, wrongSize, unknown, notTaken}
+use Rattle.format.specs.Units.{inI32}
+use Rattle.multipart.specs.Answers.{Two, countsOf}
+use Rattle.multipart.specs.Body.{bodyOf, countsIn, xyIn, zIn, mIn}
+use Rattle.record.specs.declared.Wanted.{Wanted}
+use Rattle.record.specs.declared.RecordAnswer.{RecordAnswer}
+use Rattle.record.specs.declared.RecordAnswer.the-variants as Is
+use Rattle.record.specs.declared.front.Judged.{Judged}
+use Rattle.record.specs.declared.front.Judged.the-variants as JudgedIs
+use Rattle.record.specs.declared.front.Front.{Front}
+use Rattle.record.specs.declared.front.Front.the-variants as FrontIs
+use Rattle.record.specs.declared.sizes.Sized.{Sized}
+use Rattle.record.specs.declared.sizes.Sized.the-variants as SizedIs
+use Rattle.record.specs.Reading.{Shaped, partsShape, codeIn, kindAt, isTaken, mismatchTests, isWords, moved, andThen, hasM, sizeRight, saidRecord, stored}
+
+-- ---- the tests in front of the shape
+
+-- all pass, whatever follows them
+abbrev pub Passes : List (Bool × Said Shaped) → Type 0
+Passes ts = (a : Said Shaped) → first ts a ≡ a
+
+-- an answer that puts nothing into a store
+abbrev pub storesNone : RecordAnswer → Bool
+storesNone Is.Null = true
+storesNone (Is.Point code p) = true
+storesNone (Is.Parts code m body) = false
+storesNone (Is.Short at) = true
+storesNone (Is.Size at) = true
+storesNone (Is.Unknown code) = true
+storesNone (Is.Mismatch wanted found) = true
+storesNone (Is.Room p n) = true
+storesNone (Is.NotTaken code) = true
+
+-- the first that fails gives this answer, whatever follows them
+pub record Refuses (ts : List (Bool × Said Shaped)) (r : RecordAnswer) : Type 0 where
+  pub says : (a : Said Shaped) → saidRecord r ≡ first ts a
+  pub none : storesNone r ≡ true
+
+abbrev pub Judges : List (Bool × Said Shaped) → Judged → Type 0
+Judges ts JudgedIs.On = Passes ts
+Judges ts (JudgedIs.Refused r) = Refuses ts r
+
+-- the front's tests after those of the wanted kind
+abbrev pub foundTests : {A : Type 0} → Wanted → Bytes → List ℕ → List (Bool × Said A)
+foundTests wanted size s =
+    (whole 4 0 s, short 0)
+    ∷ (known (codeIn s), unknown (codeIn s))
+    ∷ (inI32 (size .0 -ℤ pos 4), wrongSize 0)
+    ∷ (mismatchTests wanted (codeIn s) ++ ((isTaken (codeIn s), notTaken (codeIn s)) ∷ []))
+
+-- size minus 4 does not leave i32
+abbrev pub Held : Bytes → Type 0
+Held size = inI32 (size .0 -ℤ pos 4) ≡ true
+
+-- the content's kind, which is a taken one, with its lengths
+pub record Takes (size : Bytes) (s : List ℕ) (k : Kind) (l : Lengths) : Type 0 where
+  pub long : 4 ≤ length s
+  pub held : Held size
+  pub kind-is : kindAt (codeIn s) ≡ some k
+  pub lengths-are : lengthsOf k ≡ some l
+
+abbrev pub Fronts : List (Bool × Said Shaped) → Bytes → List ℕ → Front → Type 0
+Fronts ts size s (FrontIs.On k l) = Passes ts × Takes size s k l
+Fronts ts size s (FrontIs.Refused r) = Refuses ts r
+
+-- ---- a size
+
+-- what a formula comes to
+abbrev pub wordsOf : Formula → ℕ → ℕ → ℕ
+wordsOf f p n = f .fixed + 2 * p + f .point * n
+
+abbrev pub two : ℕ → ℕ → Two
+two p n = record { parts = p; points = n }
+
+-- which formula of the table it is
+abbrev pub Sizes : Kind → Bytes → Two → Sized → Type 0
+Sizes k size t SizedIs.Without = (sizeRight k size t ≡ true) × (hasM k size t ≡ false)
+Sizes k size t SizedIs.With = (sizeRight k size t ≡ true) × (hasM k size t ≡ true)
+Sizes k size t SizedIs.Neither = sizeRight k size t ≡ false
+
+-- ---- the shape
+
+-- the double at a place, or 0 where the flag is not set
+abbrev pub doubleIf : Bool → ℕ → List ℕ → Float
+doubleIf flag at s = cond flag (leF64 at s) (ofInt binary64 (pos 0))
+
+-- an answer that says this and stores nothing
+pub record Answers (said : Said Shaped) (r : RecordAnswer) : Type 0 where
+  pub says : saidRecord r ≡ said
+  pub none : storesNone r ≡ true
+
+-- an answer that says this, with what the stores then hold of a body
+pub record Reads (said : Said Shaped) (z : Bool) (b counts : List ℕ) (xy zs ms : List Float) (r : RecordAnswer) (counts′ : List ℕ) (xy′ zs′ ms′ : List Float) : Type 0 where
+  pub says : saidRecord r ≡ said
+  pub counts-are : counts′ ≡ stored r counts (λ m. countsIn b)
+  pub xy-are : xy′ ≡ stored r xy (λ m. xyIn b)
+  pub z-are : zs′ ≡ stored r zs (λ m. zIn z b)
+  pub m-are : ms′ ≡ stored r ms (λ m. mIn z m b)
+
+-- a body whose size is judged
+unfoldable pub restFrom : ℤ → Bool → Bool → List ℕ → ℕ → ℕ → ℕ → ℕ → Said Shaped
+restFrom code z m b counts xy zs ms = andThen (moved (bodyOf z m b counts xy zs ms)) (λ body. gives (partsShape code m body))
+
+-- a body whose size is not
+unfoldable pub partsFrom : ℤ → Kind → Bytes → List ℕ → ℕ → ℕ → ℕ → ℕ → Said Shaped
+partsFrom code k size b counts xy zs ms =
+    andThen (moved (countsOf b)) (λ t. cond (sizeRight k size t) (restFrom code (k .z) (hasM k size t) b counts xy zs ms) (wrongSize 0))

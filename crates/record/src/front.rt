@@ -1,0 +1,99 @@
+// What is judged before a record's shape: the wanted kind, the kind's field, the size, and whether the kind is wanted and taken.
+ghost use mathlib.Core.Path.{_≡_};
+ghost use Rattle.record.specs.Reading.{wantedTests, mismatchTests, frontTests};
+ghost use Rattle.record.specs.Steps.{Judges, foundTests, Fronts};
+use crate::RecordAnswer;
+use crate::Wanted;
+use format::kinds::Found;
+use format::kinds::Kind;
+use format::lengths::Content;
+use format::lengths::Lengths;
+use format::units::Bytes;
+
+pub enum Judged {
+    On,
+    Refused(RecordAnswer),
+}
+
+// The content's kind with its lengths, or a refusal.
+pub enum Front {
+    On(Kind, Lengths),
+    Refused(RecordAnswer),
+}
+
+// The wanted kind by itself: a known one, and one that a typed read takes.
+fn judge_code(code: i32) -> Judged
+    ensures { λ r. ⌜ Judges (wantedTests (Wanted.Kind code)) r ⌝ }
+{
+    let Found::Is(_) = format::kinds::find_kind(code) else {
+        return Judged::Refused(RecordAnswer::Unknown(code));
+    };
+    let Content::Taken(_) = format::lengths::lengths_of(code as u32) else {
+        return Judged::Refused(RecordAnswer::NotTaken(code));
+    };
+    if code == 0 {
+        return Judged::Refused(RecordAnswer::NotTaken(code));
+    }
+    Judged::On
+}
+
+fn judge_wanted(wanted: Wanted) -> Judged
+    ensures { λ r. ⌜ Judges (wantedTests wanted) r ⌝ }
+{
+    match wanted {
+        Wanted::Any => Judged::On,
+        Wanted::Kind(code) => judge_code(code),
+    }
+}
+
+// Whether the found kind is the wanted one.
+fn judge_match(wanted: Wanted, found: i32) -> Judged
+    ensures { λ r. ⌜ Judges (mismatchTests wanted found) r ⌝ }
+{
+    match wanted {
+        Wanted::Any => Judged::On,
+        Wanted::Kind(code) => {
+            if code == found {
+                Judged::On
+            } else {
+                Judged::Refused(RecordAnswer::Mismatch(code, found))
+            }
+        }
+    }
+}
+
+// What follows the wanted kind.
+fn judge_found(s: &[u8], size: Bytes, wanted: Wanted) -> Front
+    ensures { λ r. ⌜ Fronts (foundTests wanted size (now (s .entry))) size (now (s .entry)) r ⌝ }
+{
+    if s.len() < 4 {
+        return Front::Refused(RecordAnswer::Short(0));
+    }
+    let code = fields::le_i32_at(s, 0);
+    let Found::Is(kind) = format::kinds::find_kind(code) else {
+        return Front::Refused(RecordAnswer::Unknown(code));
+    };
+    let bytes = size.0;
+    if bytes < -0x7fff_fffc {
+        return Front::Refused(RecordAnswer::Size(0));
+    }
+    if 0x8000_0003 < bytes {
+        return Front::Refused(RecordAnswer::Size(0));
+    }
+    if let Judged::Refused(r) = judge_match(wanted, code) {
+        return Front::Refused(r);
+    }
+    match format::lengths::lengths_of(code as u32) {
+        Content::NotTaken => Front::Refused(RecordAnswer::NotTaken(code)),
+        Content::Taken(lengths) => Front::On(kind, lengths),
+    }
+}
+
+pub(crate) fn judge_front(s: &[u8], size: Bytes, wanted: Wanted) -> Front
+    ensures { λ r. ⌜ Fronts (frontTests wanted size (now (s .entry))) size (now (s .entry)) r ⌝ }
+{
+    match judge_wanted(wanted) {
+        Judged::Refused(r) => Front::Refused(r),
+        Judged::On => judge_found(s, size, wanted),
+    }
+}

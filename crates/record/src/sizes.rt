@@ -1,0 +1,50 @@
+// Sizes in bytes against the table's formulas in words.
+ghost use mathlib.Core.Path.{_≡_};
+ghost use Rattle.format.specs.Lengths.{parts, lengthsFor};
+ghost use Rattle.record.specs.Reading.{isWords};
+ghost use Rattle.record.specs.Steps.{Held, wordsOf, two, Sizes};
+use format::kinds::Kind;
+use format::lengths::Counted;
+use format::lengths::Formula;
+use format::lengths::Lengths;
+use format::units::Bytes;
+
+// Which of the two formulas of a kind with parts a size is.
+pub enum Sized {
+    Without,
+    With,
+    Neither,
+}
+
+// Whether a size is what a formula comes to.
+pub(crate) fn has_words(size: Bytes, f: Formula, p: u32, n: u32) -> bool
+    requires { ⌜ Held size ⌝ }
+    ensures { λ r. ⌜ r ≡ isWords size (wordsOf f p n) ⌝ }
+{
+    match format::lengths::content_words(f, p, n) {
+        Counted::Long => false,
+        Counted::Is(words) => {
+            let bytes = format::units::to_bytes(words);
+            bytes.0 == size.0
+        }
+    }
+}
+
+// With m only where the kind has m.
+pub(crate) fn judge_size(size: Bytes, k: Kind, l: Lengths, p: u32, n: u32) -> Sized
+    requires { ⌜ (Held size) × (l ≡ lengthsFor k parts) ⌝ }
+    ensures { λ r. ⌜ Sizes k size (two p n) r ⌝ }
+{
+    let with = l.with;
+    let without = l.without;
+    if has_words(size, with, p, n) {
+        if k.m {
+            return Sized::With;
+        }
+        return Sized::Without;
+    }
+    if has_words(size, without, p, n) {
+        return Sized::Without;
+    }
+    Sized::Neither
+}
