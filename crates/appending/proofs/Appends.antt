@@ -14,7 +14,7 @@ use Rattle.writer.specs.declared.State.{State}
 use Rattle.writer.specs.Adding.{Lent, lentKind, lentShape, recordOf, entryOf, nextState}
 use Rattle.writer.specs.Boxes.{settled}
 use Rattle.writer.specs.Finishing.{shpHeader, shxHeader}
-use Rattle.appending.specs.OneMore.{Behind, records, entries, OneMore, Appending}
+use Rattle.appending.specs.OneMore.{Behind, records, entries, Appending}
 
 records-more : (k : Kind) (n : ℕ) (ss : List Shape) (s : Shape) → recordsFrom k n (ss ++ s ∷ []) ≡ recordsFrom k n ss ++ recordBytes k (n + length ss) s
 unfolding recordsFrom

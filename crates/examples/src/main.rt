@@ -6,12 +6,12 @@ use format::lengths::Formula;
 use format::units::Bytes;
 use format::units::InWords;
 use format::units::Words;
-use header::bbox::BBoxZ;
-use header::entries::ShapeIndex;
 use header::Header;
 use header::HeaderAnswer;
 use header::HeaderBytes;
 use header::Wrote;
+use header::bbox::BBoxZ;
+use header::entries::ShapeIndex;
 use libc::STDOUT_FILENO;
 use multipart::BodyAnswer;
 use rings::CloseAnswer;
@@ -217,7 +217,15 @@ fn show_body(s: &[u8], n: usize) {
     if s.len() < n {
         return;
     }
-    match multipart::read_body(&s[0..n], false, false, &mut counts, &mut xy, &mut none, &mut more) {
+    match multipart::read_body(
+        &s[0..n],
+        false,
+        false,
+        &mut counts,
+        &mut xy,
+        &mut none,
+        &mut more,
+    ) {
         BodyAnswer::Whole(b) => {
             say(b" 0");
             count(b.parts);

@@ -1,6 +1,6 @@
 -- One turn of each loop of the crate, in the loop's own terms: what is left to do before the turn is the turn and what is left after it.
-use mathlib.Core.Path.{_≡_, refl, sym, ap, _∙_}
-use mathlib.Core.List.{List, [], _∷_, _++_, map, flatten, append-nil, reverse-cons, reverse-append}
+use mathlib.Core.Path.{_≡_, sym, ap, _∙_}
+use mathlib.Core.List.{List, [], _∷_, _++_, flatten, append-nil, reverse-cons, reverse-append}
 use Prim.Native.Nat.{ℕ, suc, _+_, _*_, _-_, _/_, _%_, _^_, _≤_, _<_}
 use native.Mathlib.Nat.{mul-suc, add-zero, add-suc, suc-add, lt-of-lt-of-le}
 use native.Mathlib.Numerals.{add-one}

@@ -1,14 +1,14 @@
 -- Signed numbers and the bits that hold them: what code tests and casts is the bits, and what a definition speaks of is the number.
 use mathlib.Core.Path.{_≡_, refl, sym, ap, _∙_, subst}
 use mathlib.Core.Bool.{Bool, true, false}
-use Prim.Native.Nat.{ℕ, suc, _+_, _*_, _-_, _^_, _≤_, _<_}
+use Prim.Native.Nat.{_^_, _≤_, _<_}
 use native.Mathlib.Nat.{not-suc-le-zero}
 use native.Mathlib.Omega.{arith}
 use lib.Dec.{T}
 use lib.IntN.{ℤ, pos, negsuc, natAbs}
 use lib.Signed.{ltZ, mag, nonNeg}
 use mir.Syntax.{Width, w32}
-use mir.Val.{Fits, SFits, bits, hbits, toZ, ofZ}
+use mir.Val.{Fits, SFits, hbits, toZ, ofZ}
 use mir.ValLaws.{toZ-ofZ, pow-bits}
 use borrow.Author.Tests.{ltb-true}
 

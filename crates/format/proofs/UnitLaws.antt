@@ -1,20 +1,18 @@
 -- Laws of lengths in words and in bytes: what fits, and that words are bytes halved exactly where bytes are words doubled.
 use mathlib.Core.Path.{_≡_, refl, sym, ap, _∙_, subst}
 use mathlib.Core.Bool.{Bool, true, false, cond, _&&_}
-use Prim.Native.Nat.{ℕ, suc, _+_, _*_, _-_, _/_, _^_, _≤_, _<_}
+use Prim.Native.Nat.{_^_, _≤_, _<_}
 use native.Mathlib.Omega.{arith}
-use lib.Dec.{T, eqb}
+use lib.Dec.{T}
 use lib.IntN.{ℤ, pos, negsuc, _+ℤ_}
 use lib.Signed.{ltZ, mag, shrZ, mag-shr}
 use mir.Syntax.{w32, w64}
 use mir.Val.{SFits, toZ, ofZ}
 use mir.ValLaws.{toZ-ofZ, sfits-le}
-use borrow.Author.Tests.{lt-ltb, le-ltb, ltb-true, ltb-false, eq-eqb, ne-eqb, eqb-true}
-use Rattle.format.specs.declared.units.Words.{Words}
+use borrow.Author.Tests.{lt-ltb, le-ltb, ltb-true, ltb-false, eq-eqb, ne-eqb}
 use Rattle.format.specs.declared.units.Bytes.{Bytes}
-use Rattle.format.specs.declared.units.InWords.{InWords}
 use Rattle.format.specs.declared.units.InWords.the-variants.{Is, Not}
-use Rattle.format.specs.Units.{sameInt, inI32, inBytes, inWords}
+use Rattle.format.specs.Units.{sameInt, inI32, inWords}
 
 -- ---- what fits
 

@@ -2,12 +2,12 @@
 -- shared, is true by what a shape is, and where each part starts is for the encoding to work out.
 use mathlib.Core.Path.{_≡_}
 use mathlib.Core.Bool.{Bool, true, false}
-use mathlib.Core.List.{List, [], _∷_, flatten}
+use mathlib.Core.List.{List, flatten}
 use mathlib.Core.Option.{Option, none, some}
 use Prim.Native.Nat.{ℕ}
 use lib.ListN.{length}
 use Rattle.format.specs.declared.kinds.Kind.{Kind}
-use Rattle.format.specs.Lengths.{Form, nothing, onePoint, formOf, contentWords}
+use Rattle.format.specs.Lengths.{nothing, onePoint, formOf}
 use Rattle.format.specs.Lengths
 
 pub record Point : Type 0 where

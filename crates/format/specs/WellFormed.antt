@@ -10,7 +10,7 @@ use lib.ListN.{length}
 use Rattle.format.specs.declared.kinds.Kind.{Kind}
 use Rattle.format.specs.Encoding.{Box, boxDoubles}
 use Rattle.format.specs.Numbers.{finite}
-use Rattle.format.specs.Shapes.{Point, BoxXY, Measure, Parts, Shape, null, point, parted}
+use Rattle.format.specs.Shapes.{Point, Measure, Parts, Shape, null, point, parted}
 
 -- the parts of 5, 15 and 25 are rings
 unfoldable pub hasRings : Kind → Bool

@@ -30,14 +30,8 @@ pub enum Counted {
 // Beside each row of `KINDS` what its content takes.
 const CONTENTS: [Content; 14] = [
     Content::Taken(Lengths {
-        without: Formula {
-            fixed: 2,
-            point: 0,
-        },
-        with: Formula {
-            fixed: 2,
-            point: 0,
-        },
+        without: Formula { fixed: 2, point: 0 },
+        with: Formula { fixed: 2, point: 0 },
     }),
     Content::Taken(Lengths {
         without: Formula {

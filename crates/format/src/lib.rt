@@ -1,4 +1,4 @@
 // ESRI's paper in code: lengths in words and in bytes, the fourteen kinds of shape, and how long a shape's content is.
-pub mod units;
 pub mod kinds;
 pub mod lengths;
+pub mod units;

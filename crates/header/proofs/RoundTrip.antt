@@ -1,23 +1,22 @@
 -- Reading what was written gives the header back, and writing what was read gives the bytes back, by the header's fields one by one.
-use mathlib.Core.Path.{_≡_, refl, sym, ap, ap₂, _∙_}
+use mathlib.Core.Path.{_≡_, refl, sym, ap, _∙_}
 use mathlib.Core.Bool.{true, false}
-use mathlib.Core.List.{List, [], _∷_, flatten, map}
-use mathlib.Core.Logic.{_↔_}
+use mathlib.Core.List.{List, [], _∷_, flatten}
 use Prim.Native.Nat.{ℕ, zero, suc, _+_, _*_, _≤_, _<_}
 use native.Mathlib.Omega.{arith}
 use lib.Dec.{T, lit<, lit≤}
 use lib.IntN.{ℤ, pos, negsuc}
-use lib.Ieee.{Float, binary64, fits, toBits}
-use lib.ListN.{length, getD, take, replicate, length-replicate}
+use lib.Ieee.{Float, binary64, fits}
+use lib.ListN.{length, getD, take}
 use lib.Signed.{nonNeg}
 use mir.Syntax.{w32}
-use mir.Val.{SFits, ofZ}
-use borrow.Author.Tests.{le-leb, leb-true, eqb-true}
+use mir.Val.{ofZ}
+use borrow.Author.Tests.{leb-true, eqb-true}
 use Rattle.format.specs.Bytes.{le, field}
 use Rattle.format.specs.Encoding.{headerFields, headerBytes}
 use Rattle.format.specs.Kinds.{known}
 use Rattle.format.specs.Numbers.{beI32, leI32, leF64, i32Be, i32Le, f64Le, PlainNan}
-use Rattle.format.specs.Said.{Said, gives, wrongSize}
+use Rattle.format.specs.Said.{gives, wrongSize}
 use Rattle.format.proofs.ByteLaws.{AllBytes, all-bytes}
 use Rattle.format.proofs.LayoutLaws.{widths, sum, start, pieces, length-flatten, field-flatten, flatten-pieces, field-take}
 use Rattle.format.proofs.NumberLaws.{length-big, length-little, length-double, beI32-back, leI32-back, leF64-back, i32Be-of, i32Le-of, f64Le-of, f64Le-only}
@@ -25,7 +24,7 @@ use Rattle.format.proofs.OrderLaws.{passed, given}
 use Rattle.header.specs.declared.Header.{Header}
 use Rattle.header.specs.Box.{boxBits, boxAt}
 use Rattle.header.specs.Reading.{is9994, headerIn, headerTests, headerOf}
-use Rattle.header.specs.RoundTrip.{Doubles, Typed, ReadsBack, Plain, WritesBack}
+use Rattle.header.specs.RoundTrip.{Typed, ReadsBack, Plain, WritesBack}
 use Rattle.header.specs.Writing.{bytesOf}
 
 -- ---- the fields of a header, and where they stand
@@ -139,20 +138,20 @@ module _ (s : List ℕ) (b : AllBytes s) (h : Header) (e : headerOf s ≡ gives 
     unfolding i32Be i32Le f64Le
     fields-same =
         λ i.
-          code-field i
-          ∷ sym (p .unused) i
-          ∷ i32Be-of 24 s b (omega (arith, long)) i
-          ∷ i32Le-of 28 s b (omega (arith, long)) i
-          ∷ i32Le-of 32 s b (omega (arith, long)) i
-          ∷ double-field 0 (lit< tt) i
-          ∷ double-field 1 (lit< tt) i
-          ∷ double-field 2 (lit< tt) i
-          ∷ double-field 3 (lit< tt) i
-          ∷ double-field 4 (lit< tt) i
-          ∷ double-field 5 (lit< tt) i
-          ∷ double-field 6 (lit< tt) i
-          ∷ double-field 7 (lit< tt) i
-          ∷ []
+        code-field i
+        ∷ sym (p .unused) i
+        ∷ i32Be-of 24 s b (omega (arith, long)) i
+        ∷ i32Le-of 28 s b (omega (arith, long)) i
+        ∷ i32Le-of 32 s b (omega (arith, long)) i
+        ∷ double-field 0 (lit< tt) i
+        ∷ double-field 1 (lit< tt) i
+        ∷ double-field 2 (lit< tt) i
+        ∷ double-field 3 (lit< tt) i
+        ∷ double-field 4 (lit< tt) i
+        ∷ double-field 5 (lit< tt) i
+        ∷ double-field 6 (lit< tt) i
+        ∷ double-field 7 (lit< tt) i
+        ∷ []
 
     written : bytesOf h ≡ take 100 s
     unfolding bytesOf headerBytes field

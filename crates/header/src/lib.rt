@@ -5,6 +5,7 @@ ghost use Rattle.header.specs.Writing.{bytesOf, WritesHeader};
 use bbox::BBoxZ;
 use format::kinds::Found;
 use format::units::Words;
+
 pub mod bbox;
 pub mod entries;
 

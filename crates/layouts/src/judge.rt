@@ -42,15 +42,19 @@ pub(crate) fn measure_size(flag: bool, n: usize) -> usize
     requires { ⌜ n < 2 ^ 60 ⌝ }
     ensures { λ r. ⌜ r ≡ measureSize flag n ⌝ }
 {
-    if flag {
-        16 + 8 * n
-    } else {
-        0
-    }
+    if flag { 16 + 8 * n } else { 0 }
 }
 
 // How many bytes the body takes, as `Written`, where they are to be written.
-pub(crate) fn judge_body(z: bool, m: bool, counts: &[u32], xy: &[f64], zs: &[f64], ms: &[f64], room: usize) -> LayoutAnswer
+pub(crate) fn judge_body(
+    z: bool,
+    m: bool,
+    counts: &[u32],
+    xy: &[f64],
+    zs: &[f64],
+    ms: &[f64],
+    room: usize,
+) -> LayoutAnswer
     ensures { λ r. ⌜ saidLayout r ≡ layoutOf z m (now (counts .entry)) (now (xy .entry)) (now (zs .entry)) (now (ms .entry)) room ⌝ }
 {
     let n = xy.len() / 2;

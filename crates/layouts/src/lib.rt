@@ -3,6 +3,7 @@ ghost use mathlib.Core.Bool.{true, false};
 ghost use mathlib.Core.List.{[]};
 ghost use Rattle.layouts.specs.Answers.{WritesBody};
 use header::bbox::BBoxZ;
+
 mod judge;
 mod puts;
 
@@ -15,7 +16,16 @@ pub enum LayoutAnswer {
 }
 
 // A body in the layout that the flags name: all is judged before the first byte is stored.
-fn write_body(out: &mut [u8], z: bool, m: bool, bbox: BBoxZ, counts: &[u32], xy: &[f64], zs: &[f64], ms: &[f64]) -> LayoutAnswer
+fn write_body(
+    out: &mut [u8],
+    z: bool,
+    m: bool,
+    bbox: BBoxZ,
+    counts: &[u32],
+    xy: &[f64],
+    zs: &[f64],
+    ms: &[f64],
+) -> LayoutAnswer
     ensures { λ r. ⌜ WritesBody z m bbox (now (counts .entry)) (now (xy .entry)) (now (zs .entry)) (now (ms .entry)) (now (out .entry)) r (now (out .exit)) ⌝ }
 {
     match judge::judge_body(z, m, counts, xy, zs, ms, out.len()) {
@@ -35,13 +45,26 @@ pub fn write_point_shape(out: &mut [u8], bbox: BBoxZ, counts: &[u32], xy: &[f64]
     write_body(out, false, false, bbox, counts, xy, &[], &[])
 }
 
-pub fn write_point_m_shape(out: &mut [u8], bbox: BBoxZ, counts: &[u32], xy: &[f64], ms: &[f64]) -> LayoutAnswer
+pub fn write_point_m_shape(
+    out: &mut [u8],
+    bbox: BBoxZ,
+    counts: &[u32],
+    xy: &[f64],
+    ms: &[f64],
+) -> LayoutAnswer
     ensures { λ r. ⌜ WritesBody false true bbox (now (counts .entry)) (now (xy .entry)) [] (now (ms .entry)) (now (out .entry)) r (now (out .exit)) ⌝ }
 {
     write_body(out, false, true, bbox, counts, xy, &[], ms)
 }
 
-pub fn write_point_z_shape(out: &mut [u8], bbox: BBoxZ, counts: &[u32], xy: &[f64], zs: &[f64], ms: &[f64]) -> LayoutAnswer
+pub fn write_point_z_shape(
+    out: &mut [u8],
+    bbox: BBoxZ,
+    counts: &[u32],
+    xy: &[f64],
+    zs: &[f64],
+    ms: &[f64],
+) -> LayoutAnswer
     ensures { λ r. ⌜ WritesBody true true bbox (now (counts .entry)) (now (xy .entry)) (now (zs .entry)) (now (ms .entry)) (now (out .entry)) r (now (out .exit)) ⌝ }
 {
     write_body(out, true, true, bbox, counts, xy, zs, ms)

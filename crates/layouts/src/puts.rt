@@ -49,7 +49,16 @@ fn put_measure(out: &mut [u8], at: usize, flag: bool, low: f64, high: f64, value
 }
 
 // All of a body, field after field.
-pub(crate) fn put_body(out: &mut [u8], z: bool, m: bool, bbox: BBoxZ, counts: &[u32], xy: &[f64], zs: &[f64], ms: &[f64])
+pub(crate) fn put_body(
+    out: &mut [u8],
+    z: bool,
+    m: bool,
+    bbox: BBoxZ,
+    counts: &[u32],
+    xy: &[f64],
+    zs: &[f64],
+    ms: &[f64],
+)
     requires { ⌜ Placed z m (now counts) (now xy) (now zs) (now ms) (length (now out)) ⌝ }
     ensures { λ _. ⌜ now (out .exit) ≡ sets (now (out .entry)) 0 (partsBytes (partsOf z m bbox (now (counts .entry)) (now (xy .entry)) (now (zs .entry)) (now (ms .entry)))) ⌝ }
 {

@@ -25,6 +25,7 @@ use Rattle.rules.specs.Rules.{Taken, littleAt, withForm, takenOf, takenIn}
 use Rattle.pair.specs.declared.plans.Plan.{Plan}
 use Rattle.pair.specs.declared.plans.Planned.the-variants.{Is, NotTaken}
 use Rattle.pair.specs.Plans.{hasParts, pointsAlone, planFor, planned, alone, takenFrom}
+use Rattle.pair.proofs.Turns.{both-hold}
 
 -- ---- the table
 
@@ -32,17 +33,13 @@ abbrev all : (Kind → Bool) → List Kind → Bool
 all ok [] = true
 all ok (k ∷ rows) = ok k && all ok rows
 
-both : (a b : Bool) → T (a && b) → T a × T b
-both true b t = (tt, t)
-both false b t = absurd t
-
 -- what a computed test says of the row that was found
 of-row : (ok : Kind → Bool) (l : List Kind) (i : ℕ) (k : Kind) → T (all ok l) → getElem? l i ≡ some k → T (ok k)
 of-row ok [] i k t e = absurd (let z : _≡_ {A = ℕ} 0 1 = cc in omega arith)
 of-row ok (r ∷ rows) zero k t e =
     let q : r ≡ k = cc in
-    subst (λ (x : Kind). T (ok x)) q (both (ok r) (all ok rows) t .0)
-of-row ok (r ∷ rows) (suc i) k t e = of-row ok rows i k (both (ok r) (all ok rows) t .1) e
+    subst (λ (x : Kind). T (ok x)) q (both-hold (ok r) (all ok rows) t .0)
+of-row ok (r ∷ rows) (suc i) k t e = of-row ok rows i k (both-hold (ok r) (all ok rows) t .1) e
 
 -- the row's code is the one that was looked for
 row-code : (l : List Kind) (n : ℕ) (k : Kind) → getElem? l (rowOf n l) ≡ some k → k .code ≡ n
@@ -61,7 +58,7 @@ row-out : (l : List Kind) (n : ℕ) → T (all (λ k. ltb (k .code) (2 ^ 31)) l)
 unfolding rowOf
 row-out [] n t h = refl
 row-out (r ∷ rows) n t h =
-    let q = both (ltb (r .code) (2 ^ 31)) (all (λ k. ltb (k .code) (2 ^ 31)) rows) t in
+    let q = both-hold (ltb (r .code) (2 ^ 31)) (all (λ k. ltb (k .code) (2 ^ 31)) rows) t in
     let p : r .code < 2 ^ 31 = ltb-true (r .code) (2 ^ 31) (is-true (ltb (r .code) (2 ^ 31)) (q .0)) in
     rw (ne-eqb (r .code) n (λ e. omega arith)) (ap suc (row-out rows n (q .1) h))
   where
@@ -143,7 +140,13 @@ module _ (k : Kind) (l : Lengths) (points least : ℕ) (rings : Bool) (ok : T (p
       let m : least ≡ cond (hasRings k) 4 2 = ls ∙ ap (λ (x : Bool). cond x 4 2) rs in
       λ i. Is (record { kind = k; parts = b i; points = n i; rings = rs i; least = m i; lengths = sym q i })
 
-pub is-taken : (s : List ℕ) (k : Kind) (l : Lengths) (points least : ℕ) (rings : Bool) → kindOf (leI32 32 s) ≡ Found.Is k → contentOf (k .code) ≡ Content.Taken l → points ≡ cond (eqb (k .code) 0) 0 1 → rings ≡ (eqb (k .code) 5 || eqb (k .code) 15 || eqb (k .code) 25) → least ≡ cond rings 4 2 → Is (record { kind = k; parts = k .parts; points = points; rings = rings; least = least; lengths = l }) ≡ planned (takenIn s)
+pub is-taken : (s : List ℕ) (k : Kind) (l : Lengths) (points least : ℕ) (rings : Bool)
+    → kindOf (leI32 32 s) ≡ Found.Is k
+    → contentOf (k .code) ≡ Content.Taken l
+    → points ≡ cond (eqb (k .code) 0) 0 1
+    → rings ≡ (eqb (k .code) 5 || eqb (k .code) 15 || eqb (k .code) 25)
+    → least ≡ cond rings 4 2
+    → Is (record { kind = k; parts = k .parts; points = points; rings = rings; least = least; lengths = l }) ≡ planned (takenIn s)
 unfolding kinds plain lengthsOf
 is-taken s k l points least rings e n ps rs ls =
     plan-by k l points least rings (of-row plain kinds (rowOf (littleAt 32 s) kinds) k tt (kind-at s k e)) ps rs ls (formOf k) refl (sym (content-at s k e) ∙ n)

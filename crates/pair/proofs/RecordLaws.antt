@@ -13,6 +13,7 @@ use Rattle.format.specs.Said.{Said, gives, fault}
 use Rattle.format.proofs.OrderLaws.{okAt}
 use Rattle.rules.specs.Rules.{Taken, Counts, partsOf, pointsOf, headRules, shapeRules, recordFault, finish, orOn, size, walk, walkFrom}
 use Rattle.pair.specs.Verdicts.{headFault}
+use Rattle.pair.proofs.Turns.{both-hold}
 
 -- ---- the walk
 
@@ -84,10 +85,6 @@ abbrev pub numbered : Rules → Bool
 numbered [] = true
 numbered (t ∷ ts) = leb 1 (t .1) && numbered ts
 
-both : (a b : Bool) → T (a && b) → T a × T b
-both true b t = (tt, t)
-both false b t = absurd t
-
 no-zero : (r : ℕ) → T (leb 1 r) → r ≡ 0 → ⊥
 no-zero zero t e = t
 no-zero (suc r) t e = omega arith
@@ -99,15 +96,15 @@ by-test false r on t e = absurd (no-zero r t e)
 pub passed : (ts us : Rules) → T (numbered ts) → first ts 0 ≡ 0 → first (ts ++ us) 0 ≡ first us 0
 passed [] us n e = refl
 passed (t ∷ ts) us n e =
-    let q = both (leb 1 (t .1)) (numbered ts) n in
+    let q = both-hold (leb 1 (t .1)) (numbered ts) n in
     let p = by-test (t .0) (t .1) (first ts 0) (q .0) e in
     rw (p .0) (passed ts us (q .1) (p .1))
 
 pub each : (ts : Rules) → T (numbered ts) → first ts 0 ≡ 0 → (i : ℕ) → okAt i ts ≡ true
 each [] n e i = refl
-each (t ∷ ts) n e zero = by-test (t .0) (t .1) (first ts 0) (both (leb 1 (t .1)) (numbered ts) n .0) e .0
+each (t ∷ ts) n e zero = by-test (t .0) (t .1) (first ts 0) (both-hold (leb 1 (t .1)) (numbered ts) n .0) e .0
 each (t ∷ ts) n e (suc i) =
-    let q = both (leb 1 (t .1)) (numbered ts) n in
+    let q = both-hold (leb 1 (t .1)) (numbered ts) n in
     each ts (q .1) (by-test (t .0) (t .1) (first ts 0) (q .0) e .1) i
 
 pub failed : (ts us : Rules) (r : ℕ) → first ts 0 ≡ r → (r ≡ 0 → ⊥) → first (ts ++ us) 0 ≡ r

@@ -96,7 +96,9 @@ of15 k nothing l true e h = absurd (let z : _≡_ {A = Bool} false true = h refl
 of15 k onePoint l true e h = absurd (let z : _≡_ {A = Bool} false true = h refl in let y : _≡_ {A = ℕ} 0 1 = cc in omega arith)
 of15 k parts l true e h = rw e
 
-of16 : (k : Kind) (f : Form) (l : List ℕ) → P13 (record { kind = k; form = f }) l ≡ true → P16 (record { kind = k; form = f }) l ≡ (finites (cond (hasParts f) 4 ((wordsOf l - 2) / 4)) 12 l && finites (cond (hasParts f) ((wordsOf l - 22 - 2 * partsOf f l) / 4) 0) (52 + 4 * partsOf f l) l)
+of16 : (k : Kind) (f : Form) (l : List ℕ)
+    → P13 (record { kind = k; form = f }) l ≡ true
+    → P16 (record { kind = k; form = f }) l ≡ (finites (cond (hasParts f) 4 ((wordsOf l - 2) / 4)) 12 l && finites (cond (hasParts f) ((wordsOf l - 22 - 2 * partsOf f l) / 4) 0) (52 + 4 * partsOf f l) l)
 unfolding finites
 of16 k nothing l e = rw (null-words k l e)
 of16 k onePoint l e = sym (and-true (finites ((wordsOf l - 2) / 4) 12 l))

@@ -32,7 +32,11 @@ pub record Walked (plan : Plan) (s x : List ℕ) (at ix k ps ns : ℕ) (v : Said
   pub rest : walkFrom (takenFrom plan) (drop at s) (drop ix x) at (counts k ps ns) ≡ v
 
 -- a record whose head breaks a rule
-pub no-head : (t : Taken) (s x : List ℕ) (at ix k ps ns r : ℕ) → at < length s → r ≡ headFault t (drop at s) (drop ix x) at (k + 1) → (r ≡ 0 → ⊥) → walkFrom t (drop at s) (drop ix x) at (counts k ps ns) ≡ fault r (k + 1)
+pub no-head : (t : Taken) (s x : List ℕ) (at ix k ps ns r : ℕ)
+    → at < length s
+    → r ≡ headFault t (drop at s) (drop ix x) at (k + 1)
+    → (r ≡ 0 → ⊥)
+    → walkFrom t (drop at s) (drop ix x) at (counts k ps ns) ≡ fault r (k + 1)
 no-head t s x at ix k ps ns r h e n =
     broken t (drop at s) (drop ix x) at (counts k ps ns) (rw length-drop (omega arith)) r n
     (by-head t (drop at s) (drop ix x) at (k + 1) r (sym e) n)
@@ -55,7 +59,7 @@ module _ {plan : Plan} {s x : List ℕ} {at ix k : ℕ} (o : Open plan s x at ix
   words-at : wordsOf (drop at s) ≡ bigAt (at + 4) s
   words-at = big-drop at s 4
 
--- what its words and its counts have room for
+-- what its words have room for
 pub record Room (plan : Plan) (s x : List ℕ) (at ix w : ℕ) : Type 0 where
   pub held : w < 2 ^ 31
   pub some : 2 ≤ w
@@ -77,6 +81,7 @@ room {plan} {s} {x} {at} {ix} {k} o w e =
       parted = λ p. rw (q, ← little-drop at s 44, ← little-drop at s 48) (h .room (sym (has-parts o) ∙ p));
     }
 
+-- and with p parts and n points: the parts' starts and points, the doubles in front of the counts and those behind the starts
 pub record Fit (plan : Plan) (s x : List ℕ) (at ix w p n : ℕ) : Type 0 where
   pub held : w < 2 ^ 31
   pub within : at + (8 + 2 * w) ≤ length s
@@ -103,6 +108,7 @@ unfolding partsLong
 long-rings true s n least at cur p e = e
 long-rings false s n least at cur p e = refl
 
+-- with parts, and without
 by-parts : (b : Bool) (a i j w p n : ℕ) → p ≡ cond b i 0 → n ≡ cond b j a → 2 ≤ w → a ≤ 1 → (b ≡ true → 22 + 2 * p + 8 * n ≤ w)
     → (p ≤ w) × (n ≤ w) × (0 < p → 22 + 2 * p + 8 * n ≤ w) × (12 + 8 * cond b 4 ((w - 2) / 4) ≤ 8 + 2 * w)
     × (0 < cond b ((w - 22 - 2 * p) / 4) 0 → 52 + 4 * p + 8 * cond b ((w - 22 - 2 * p) / 4) 0 ≤ 8 + 2 * w)

@@ -18,6 +18,7 @@ use format::lengths::Lengths;
 
 // ---- the headers
 
+// P3: the code is 9994, the unused bytes are 0, the version is 1000.
 fn starts_right(shp: &[u8]) -> bool
     requires { ⌜ 100 ≤ length (now shp) ⌝ }
     ensures { λ r. ⌜ r ≡ P3 (now (shp .entry)) ⌝ }
@@ -31,6 +32,7 @@ fn starts_right(shp: &[u8]) -> bool
     little(shp, 28) == 1000
 }
 
+// A length field doubled is the byte count: P5 of the .shp.
 fn length_right(s: &[u8]) -> bool
     requires { ⌜ 100 ≤ length (now s) ⌝ }
     ensures { λ r. ⌜ r ≡ lengthRight (now (s .entry)) ⌝ }
@@ -42,6 +44,7 @@ fn length_right(s: &[u8]) -> bool
     in_bytes(words) == s.len()
 }
 
+// P7: the .shx's header is the .shp's, but for the length field.
 fn headers_agree(shp: &[u8], shx: &[u8]) -> bool
     requires { ⌜ (100 ≤ length (now shp)) × (100 ≤ length (now shx)) ⌝ }
     ensures { λ r. ⌜ r ≡ P7 (now (shp .entry)) (now (shx .entry)) ⌝ }
@@ -52,6 +55,7 @@ fn headers_agree(shp: &[u8], shx: &[u8]) -> bool
     same_bytes(shx, shp, 28, 72)
 }
 
+// P8: the length of the .shx is right, and it has whole entries.
 fn index_sized(shx: &[u8]) -> bool
     requires { ⌜ 100 ≤ length (now shx) ⌝ }
     ensures { λ r. ⌜ r ≡ P8 (now (shx .entry)) ⌝ }
@@ -63,7 +67,7 @@ fn index_sized(shx: &[u8]) -> bool
 }
 
 // The first of P1 to P3 that the headers break; 0 for none.
-pub fn front_fault(shp: &[u8], shx: &[u8]) -> usize
+pub(crate) fn front_fault(shp: &[u8], shx: &[u8]) -> usize
     ensures { λ r. ⌜ r ≡ frontFault (now (shp .entry)) (now (shx .entry)) ⌝ }
 {
     if shp.len() < 100 {
@@ -79,7 +83,7 @@ pub fn front_fault(shp: &[u8], shx: &[u8]) -> usize
 }
 
 // And the first of P5 to P8.
-pub fn back_fault(shp: &[u8], shx: &[u8]) -> usize
+pub(crate) fn back_fault(shp: &[u8], shx: &[u8]) -> usize
     requires { ⌜ (100 ≤ length (now shp)) × (100 ≤ length (now shx)) ⌝ }
     ensures { λ r. ⌜ r ≡ backFault (now (shp .entry)) (now (shx .entry)) ⌝ }
 {
@@ -100,6 +104,7 @@ pub fn back_fault(shp: &[u8], shx: &[u8]) -> usize
 
 // ---- a record, whose header stands at a place
 
+// P9: eight bytes are there, and the number is k.
 fn numbered(shp: &[u8], at: usize, k: usize) -> bool
     requires { ⌜ at ≤ length (now shp) ⌝ }
     ensures { λ r. ⌜ r ≡ P9 (drop at (now (shp .entry))) k ⌝ }
@@ -113,6 +118,7 @@ fn numbered(shp: &[u8], at: usize, k: usize) -> bool
     k < 0x8000_0000
 }
 
+// P10: a content of at least 2 words lies in the file.
 fn inside(shp: &[u8], at: usize) -> bool
     requires { ⌜ at + 8 ≤ length (now shp) ⌝ }
     ensures { λ r. ⌜ r ≡ P10 (drop at (now (shp .entry))) ⌝ }
@@ -127,6 +133,7 @@ fn inside(shp: &[u8], at: usize) -> bool
     8 + in_bytes(words) <= shp.len() - at
 }
 
+// P11: the entry is there, with this offset and length.
 fn indexed(shp: &[u8], shx: &[u8], at: usize, ix: usize) -> bool
     requires { ⌜ (at + 8 ≤ length (now shp)) × (ix ≤ length (now shx)) ⌝ }
     ensures { λ r. ⌜ r ≡ P11 (drop at (now (shp .entry))) (drop ix (now (shx .entry))) at ⌝ }
@@ -155,6 +162,7 @@ fn gives(f: Formula, p: usize, n: usize, words: usize) -> bool
     }
 }
 
+// One of the two formulas of a kind gives so many words.
 fn measures(lengths: Lengths, p: usize, n: usize, words: usize) -> bool
     requires { ⌜ (p < 2 ^ 31) × (n < 2 ^ 31) × (words < 2 ^ 31) ⌝ }
     ensures { λ r. ⌜ r ≡ (eqb words (formulaWords (lengths .without) p n) || eqb words (formulaWords (lengths .with) p n)) ⌝ }
@@ -167,6 +175,7 @@ fn measures(lengths: Lengths, p: usize, n: usize, words: usize) -> bool
     gives(with, p, n, words)
 }
 
+// P13: the counts are not negative, and the length is one that they give. With parts, too few words for the counts fit no formula.
 fn sized(plan: Plan, shp: &[u8], at: usize) -> bool
     requires { ⌜ (plan ≡ planFor (takenFrom plan)) × (at + 8 + 2 * bigAt (at + 4) (now shp) ≤ length (now shp)) × (bigAt (at + 4) (now shp) < 2 ^ 31) ⌝ }
     ensures { λ r. ⌜ r ≡ P13 (takenFrom plan) (drop at (now (shp .entry))) ⌝ }
@@ -191,7 +200,14 @@ fn sized(plan: Plan, shp: &[u8], at: usize) -> bool
 }
 
 // The first of P9 to P13 that record k breaks; 0 for none.
-pub fn head_fault(plan: Plan, shp: &[u8], shx: &[u8], at: usize, ix: usize, k: usize) -> usize
+pub(crate) fn head_fault(
+    plan: Plan,
+    shp: &[u8],
+    shx: &[u8],
+    at: usize,
+    ix: usize,
+    k: usize,
+) -> usize
     requires { ⌜ (plan ≡ planFor (takenFrom plan)) × (at ≤ length (now shp)) × (ix ≤ length (now shx)) ⌝ }
     ensures { λ r. ⌜ r ≡ headFault (takenFrom plan) (drop at (now (shp .entry))) (drop ix (now (shx .entry))) at k ⌝ }
 {

@@ -10,7 +10,7 @@ ghost use Rattle.pair.specs.Plans.{Word};
 use format::units::Words;
 
 // The bits of an i32 field, high byte first.
-pub fn big(s: &[u8], at: usize) -> usize
+pub(crate) fn big(s: &[u8], at: usize) -> usize
     requires { ⌜ at + 4 ≤ length (now s) ⌝ }
     ensures { λ r. ⌜ Word (bigAt at (now (s .entry))) r ⌝ }
 {
@@ -18,7 +18,7 @@ pub fn big(s: &[u8], at: usize) -> usize
 }
 
 // The same, low byte first.
-pub fn little(s: &[u8], at: usize) -> usize
+pub(crate) fn little(s: &[u8], at: usize) -> usize
     requires { ⌜ at + 4 ≤ length (now s) ⌝ }
     ensures { λ r. ⌜ Word (littleAt at (now (s .entry))) r ⌝ }
 {
@@ -26,7 +26,7 @@ pub fn little(s: &[u8], at: usize) -> usize
 }
 
 // So many words, that an i32 holds, in bytes.
-pub fn in_bytes(words: usize) -> usize
+pub(crate) fn in_bytes(words: usize) -> usize
     requires { ⌜ words < 2 ^ 31 ⌝ }
     ensures { λ r. ⌜ r ≡ 2 * words ⌝ }
 {
@@ -35,7 +35,7 @@ pub fn in_bytes(words: usize) -> usize
 }
 
 // The double at a place is no NaN and no infinity: the bits of its exponent are not all ones.
-pub fn is_finite(s: &[u8], at: usize) -> bool
+pub(crate) fn is_finite(s: &[u8], at: usize) -> bool
     requires { ⌜ at + 8 ≤ length (now s) ⌝ }
     ensures { λ r. ⌜ r ≡ finite (doubleAt at (now (s .entry))) ⌝ }
 {
@@ -44,7 +44,7 @@ pub fn is_finite(s: &[u8], at: usize) -> bool
 }
 
 // And so are n doubles from a place on.
-pub fn all_finite(s: &[u8], at: usize, n: usize) -> bool
+pub(crate) fn all_finite(s: &[u8], at: usize, n: usize) -> bool
     requires { ⌜ at + 8 * n ≤ length (now s) ⌝ }
     ensures { λ r. ⌜ r ≡ finites n at (now (s .entry)) ⌝ }
 {
@@ -61,7 +61,7 @@ pub fn all_finite(s: &[u8], at: usize, n: usize) -> bool
 }
 
 // The n bytes from a place on are the same in both.
-pub fn same_bytes(a: &[u8], b: &[u8], at: usize, n: usize) -> bool
+pub(crate) fn same_bytes(a: &[u8], b: &[u8], at: usize, n: usize) -> bool
     requires { ⌜ (at + n ≤ length (now a)) × (at + n ≤ length (now b)) ⌝ }
     ensures { λ r. ⌜ r ≡ sameBytes (field n at (now (a .entry))) (field n at (now (b .entry))) ⌝ }
 {
@@ -78,7 +78,7 @@ pub fn same_bytes(a: &[u8], b: &[u8], at: usize, n: usize) -> bool
 }
 
 // And they are zeros.
-pub fn zero_bytes(s: &[u8], at: usize, n: usize) -> bool
+pub(crate) fn zero_bytes(s: &[u8], at: usize, n: usize) -> bool
     requires { ⌜ at + n ≤ length (now s) ⌝ }
     ensures { λ r. ⌜ r ≡ sameBytes (field n at (now (s .entry))) (replicate n 0) ⌝ }
 {
@@ -95,7 +95,7 @@ pub fn zero_bytes(s: &[u8], at: usize, n: usize) -> bool
 }
 
 // Where a part ends that so many parts follow: at the next start, which stands at a place, or the last part at n.
-pub fn end_of(s: &[u8], at: usize, left: usize, n: usize) -> usize
+pub(crate) fn end_of(s: &[u8], at: usize, left: usize, n: usize) -> usize
     requires { ⌜ (at + 4 * left ≤ length (now s)) × (n < 2 ^ 32) ⌝ }
     ensures { λ r. ⌜ Word (endOf left at (now (s .entry)) n) r ⌝ }
 {
@@ -103,7 +103,7 @@ pub fn end_of(s: &[u8], at: usize, left: usize, n: usize) -> usize
 }
 
 // The points from a place on: the ring from point `from` to the one before `end` is closed, its numbers compared as IEEE numbers.
-pub fn closed(s: &[u8], pairs: usize, from: usize, end: usize) -> bool
+pub(crate) fn closed(s: &[u8], pairs: usize, from: usize, end: usize) -> bool
     requires { ⌜ (from < end) × (pairs + 16 * end ≤ length (now s)) ⌝ }
     ensures { λ r. ⌜ r ≡ ringClosed pairs from end (now (s .entry)) ⌝ }
 {

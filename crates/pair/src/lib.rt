@@ -5,7 +5,7 @@ ghost use Prim.Native.Nat.{_≤_};
 ghost use lib.ListN.{length, drop};
 ghost use Rattle.rules.specs.Rules.{verdict, walkFrom, none-yet};
 ghost use Rattle.pair.specs.Plans.{planFor, takenFrom};
-ghost use Rattle.pair.specs.Verdicts.{saidVerdict};
+ghost use Rattle.pair.specs.Verdicts.{saidVerdict, Checks};
 use plans::Plan;
 use plans::Planned;
 
@@ -37,12 +37,13 @@ fn walk(plan: Plan, shp: &[u8], shx: &[u8]) -> Verdict
     let mut parts: usize = 0;
     let mut points: usize = 0;
     'walk: loop {
+        let k = records + 1;
         // P17: at the end of the .shp no index entry is left over
         if at >= shp.len() {
             if ix < shx.len() {
                 break 'walk Verdict::No {
                     rule: 17,
-                    record: records + 1,
+                    record: k,
                 };
             }
             break 'walk Verdict::Yes {
@@ -52,11 +53,11 @@ fn walk(plan: Plan, shp: &[u8], shx: &[u8]) -> Verdict
             };
         }
         // P9 to P13
-        let fault = heads::head_fault(plan, shp, shx, at, ix, records + 1);
+        let fault = heads::head_fault(plan, shp, shx, at, ix, k);
         if fault != 0 {
             break 'walk Verdict::No {
                 rule: fault,
-                record: records + 1,
+                record: k,
             };
         }
         let words = leaves::big(shp, at + 4);
@@ -66,7 +67,7 @@ fn walk(plan: Plan, shp: &[u8], shx: &[u8]) -> Verdict
         if !plans::begins(plan, shp, at, p) {
             break 'walk Verdict::No {
                 rule: 14,
-                record: records + 1,
+                record: k,
             };
         }
         let mut start = at + 56;
@@ -78,7 +79,7 @@ fn walk(plan: Plan, shp: &[u8], shx: &[u8]) -> Verdict
             if end < cur + plan.least {
                 break 'walk Verdict::No {
                     rule: 14,
-                    record: records + 1,
+                    record: k,
                 };
             }
             cur = end;
@@ -95,7 +96,7 @@ fn walk(plan: Plan, shp: &[u8], shx: &[u8]) -> Verdict
             if !leaves::closed(shp, pairs, from, end) {
                 break 'walk Verdict::No {
                     rule: 15,
-                    record: records + 1,
+                    record: k,
                 };
             }
             from = end;
@@ -108,7 +109,7 @@ fn walk(plan: Plan, shp: &[u8], shx: &[u8]) -> Verdict
             if !leaves::is_finite(shp, front) {
                 break 'walk Verdict::No {
                     rule: 16,
-                    record: records + 1,
+                    record: k,
                 };
             }
             fronts -= 1;
@@ -120,7 +121,7 @@ fn walk(plan: Plan, shp: &[u8], shx: &[u8]) -> Verdict
             if !leaves::is_finite(shp, double) {
                 break 'walk Verdict::No {
                     rule: 16,
-                    record: records + 1,
+                    record: k,
                 };
             }
             doubles -= 1;
@@ -128,14 +129,14 @@ fn walk(plan: Plan, shp: &[u8], shx: &[u8]) -> Verdict
         }
         at += 8 + leaves::in_bytes(words);
         ix += 8;
-        records += 1;
+        records = k;
         parts += p;
         points += n;
     }
 }
 
-// The verdict on a .shp and its .shx.
-pub fn check_pair(shp: &[u8], shx: &[u8]) -> Verdict
+// The headers, and where they are fine the records.
+fn judge(shp: &[u8], shx: &[u8]) -> Verdict
     ensures { λ r. ⌜ saidVerdict r ≡ verdict (now (shp .entry)) (now (shx .entry)) ⌝ }
 {
     let front = heads::front_fault(shp, shx);
@@ -156,4 +157,11 @@ pub fn check_pair(shp: &[u8], shx: &[u8]) -> Verdict
         };
     }
     walk(plan, shp, shx)
+}
+
+// The verdict on a .shp and its .shx: by the rules, and by what that means of the shapes in the two files.
+pub fn check_pair(shp: &[u8], shx: &[u8]) -> Verdict
+    ensures { λ r. ⌜ Checks (now (shp .entry)) (now (shx .entry)) r ⌝ }
+{
+    judge(shp, shx)
 }

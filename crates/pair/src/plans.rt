@@ -28,6 +28,7 @@ pub enum Planned {
     NotTaken,
 }
 
+// The parts of 5, 15 and 25 are rings.
 fn has_rings(code: u32) -> bool
     ensures { λ r. ⌜ r ≡ (eqb code 5 || eqb code 15 || eqb code 25) ⌝ }
 {
@@ -37,12 +38,14 @@ fn has_rings(code: u32) -> bool
     }
 }
 
+// A ring has at least 4 points, any other part 2.
 fn least_points(rings: bool) -> usize
     ensures { λ r. ⌜ r ≡ cond rings 4 2 ⌝ }
 {
     if rings { 4 } else { 2 }
 }
 
+// The points of a record without parts: Null has none.
 fn points_alone(code: u32) -> usize
     ensures { λ r. ⌜ r ≡ cond (eqb code 0) 0 1 ⌝ }
 {
@@ -50,7 +53,7 @@ fn points_alone(code: u32) -> usize
 }
 
 // The plan of the kind that a .shp's header names, where it is a taken one.
-pub fn plan_in(shp: &[u8]) -> Planned
+pub(crate) fn plan_in(shp: &[u8]) -> Planned
     requires { ⌜ 100 ≤ length (now shp) ⌝ }
     ensures { λ r. ⌜ r ≡ planned (takenIn (now (shp .entry))) ⌝ }
 {
@@ -73,14 +76,14 @@ pub fn plan_in(shp: &[u8]) -> Planned
 }
 
 // The counts of the record at a place.
-pub fn parts_at(plan: Plan, s: &[u8], at: usize) -> usize
+pub(crate) fn parts_at(plan: Plan, s: &[u8], at: usize) -> usize
     requires { ⌜ (plan .parts ≡ true → at + 52 ≤ length (now s)) ⌝ }
     ensures { λ r. ⌜ Word (cond (plan .parts) (littleAt (at + 44) (now (s .entry))) 0) r ⌝ }
 {
     if plan.parts { little(s, at + 44) } else { 0 }
 }
 
-pub fn points_at(plan: Plan, s: &[u8], at: usize) -> usize
+pub(crate) fn points_at(plan: Plan, s: &[u8], at: usize) -> usize
     requires { ⌜ (plan .parts ≡ true → at + 52 ≤ length (now s)) ⌝ }
     ensures { λ r. ⌜ r ≡ cond (plan .parts) (littleAt (at + 48) (now (s .entry))) (plan .points) ⌝ }
 {
@@ -92,7 +95,7 @@ pub fn points_at(plan: Plan, s: &[u8], at: usize) -> usize
 }
 
 // There is a part, and the first one starts at point 0.
-pub fn begins(plan: Plan, s: &[u8], at: usize, p: usize) -> bool
+pub(crate) fn begins(plan: Plan, s: &[u8], at: usize, p: usize) -> bool
     requires { ⌜ (plan .parts ≡ true → at + 52 + 4 * p ≤ length (now s)) ⌝ }
     ensures { λ r. ⌜ r ≡ cond (plan .parts) (leb 1 p && eqb (littleAt (at + 52) (now (s .entry))) 0) true ⌝ }
 {
@@ -106,21 +109,21 @@ pub fn begins(plan: Plan, s: &[u8], at: usize, p: usize) -> bool
 }
 
 // How many of p parts are rings.
-pub fn rings_in(plan: Plan, p: usize) -> usize
+pub(crate) fn rings_in(plan: Plan, p: usize) -> usize
     ensures { λ r. ⌜ r ≡ cond (plan .rings) p 0 ⌝ }
 {
     if plan.rings { p } else { 0 }
 }
 
 // The doubles in front of the counts, or all of a record without parts; and those behind the starts.
-pub fn front_doubles(plan: Plan, words: usize) -> usize
+pub(crate) fn front_doubles(plan: Plan, words: usize) -> usize
     requires { ⌜ 2 ≤ words ⌝ }
     ensures { λ r. ⌜ r ≡ cond (plan .parts) 4 ((words - 2) / 4) ⌝ }
 {
     if plan.parts { 4 } else { (words - 2) / 4 }
 }
 
-pub fn back_doubles(plan: Plan, words: usize, p: usize) -> usize
+pub(crate) fn back_doubles(plan: Plan, words: usize, p: usize) -> usize
     requires { ⌜ (plan .parts ≡ true → 22 + 2 * p ≤ words) ⌝ }
     ensures { λ r. ⌜ r ≡ cond (plan .parts) ((words - 22 - 2 * p) / 4) 0 ⌝ }
 {

@@ -1,5 +1,5 @@
 -- An offset that a body is refused with lies within its bytes: a test that names a place is reached only where the bytes go so far.
-use mathlib.Core.Path.{_≡_, refl, sym, ap, _∙_, subst}
+use mathlib.Core.Path.{_≡_, refl, ap, _∙_}
 use mathlib.Core.Bool.{Bool, true, false, cond}
 use mathlib.Core.List.{List, [], _∷_, _++_, map}
 use Prim.Native.Nat.{ℕ, zero, suc, _+_, _*_, _≤_, zero-le}
@@ -50,9 +50,9 @@ module _ {A : Type 0} (s : List ℕ) where
       let later = partTests (start + 4) (at + 16 * countOf d) ds s in
       test-near (isCount d) (first (fieldsFrom 8 (2 * countOf d) at s short ++ later) a) (wrongSize start) (omega arith)
       (λ e.
-        rw (first-append (fieldsFrom 8 (2 * countOf d) at s short) later a)
-        (fields-near 8 (2 * countOf d) at h (first later a)
-        (λ q. parts-near ds (start + 4) (at + 16 * countOf d) (omega arith) (omega arith) a (λ r. k (omega arith)))))
+      rw (first-append (fieldsFrom 8 (2 * countOf d) at s short) later a)
+      (fields-near 8 (2 * countOf d) at h (first later a)
+      (λ q. parts-near ds (start + 4) (at + 16 * countOf d) (omega arith) (omega arith) a (λ r. k (omega arith)))))
 
   measure-near : (flag : Bool) (n at : ℕ) → at ≤ length s → (a : Said A) → (endAfter flag n at ≤ length s → Near a) → Near (first (measureTests flag n at s) a)
   measure-near true n at h a k = fields-near 8 (2 + n) at h a (λ q. k (omega arith))
@@ -64,13 +64,13 @@ module _ {A : Type 0} (s : List ℕ) where
   counts-near a k =
       fields-near 8 4 0 (omega arith) _
       (λ h.
-        test-near (whole 4 32 s) _ (short 32) (omega arith)
-        (λ e.
-          let p : 36 ≤ length s = leb-true 36 (length s) e in
-          test-near (whole 4 36 s) _ (short 36) p
-          (λ f.
-            let q : 40 ≤ length s = leb-true 40 (length s) f in
-            test-near (nonNeg (leI32 32 s)) _ (wrongSize 32) (omega arith) (λ g. test-near (nonNeg (leI32 36 s)) a (wrongSize 36) p (λ i. k q)))))
+      test-near (whole 4 32 s) _ (short 32) (omega arith)
+      (λ e.
+      let p : 36 ≤ length s = leb-true 36 (length s) e in
+      test-near (whole 4 36 s) _ (short 36) p
+      (λ f.
+      let q : 40 ≤ length s = leb-true 40 (length s) f in
+      test-near (nonNeg (leI32 32 s)) _ (wrongSize 32) (omega arith) (λ g. test-near (nonNeg (leI32 36 s)) a (wrongSize 36) p (λ i. k q)))))
 
 pub counts-offset : (s : List ℕ) (r : Said Two) → r ≡ countsOf s → offset r ≤ length s
 unfolding countsOf

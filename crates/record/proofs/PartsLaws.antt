@@ -1,5 +1,5 @@
 -- Laws of bodies behind the kind's field: an answer of the body is the record's, its offset moved by 4.
-use mathlib.Core.Path.{_≡_, refl, sym, ap, _∙_, subst}
+use mathlib.Core.Path.{_≡_, refl, sym, ap, _∙_}
 use mathlib.Core.Bool.{Bool, true, false, cond}
 use mathlib.Core.List.{List}
 use Prim.Native.Nat.{ℕ, _+_}
@@ -12,15 +12,12 @@ use Rattle.format.specs.Said.{Said, gives, wrongSize}
 use Rattle.multipart.specs.declared.Body.{Body}
 use Rattle.multipart.specs.declared.BodyAnswer.{BodyAnswer}
 use Rattle.multipart.specs.declared.BodyAnswer.the-variants as BodyIs
-use Rattle.multipart.specs.declared.CountsAnswer.{CountsAnswer}
 use Rattle.multipart.specs.declared.CountsAnswer.the-variants as CountsIs
 use Rattle.multipart.specs.Answers.{Two, saidCounts, countsOf, saidBody, ReadsBody}
 use Rattle.record.specs.declared.RecordAnswer.{RecordAnswer}
 use Rattle.record.specs.declared.RecordAnswer.the-variants as Is
-use Rattle.record.specs.declared.sizes.Sized.{Sized}
-use Rattle.record.specs.declared.sizes.Sized.the-variants as SizedIs
 use Rattle.record.specs.Reading.{Shaped, partsShape, moved, andThen, hasM, sizeRight, saidRecord, stored}
-use Rattle.record.specs.Steps.{storesNone, Answers, Reads, restFrom, partsFrom, two, Sizes}
+use Rattle.record.specs.Steps.{storesNone, Answers, Reads, restFrom, partsFrom, two}
 
 -- what the record answers where the body answers so
 abbrev pub after : ℤ → Bool → BodyAnswer → RecordAnswer
@@ -51,7 +48,7 @@ module _ (code : ℤ) (z m : Bool) (b counts : List ℕ) (xy zs ms : List Float)
 
 -- ---- an answer that stores nothing
 
-stored-none : {A : Type 0} (r : RecordAnswer) (store : List A) (values : Bool → List A) → storesNone r ≡ true → store ≡ stored r store values
+pub stored-none : {A : Type 0} (r : RecordAnswer) (store : List A) (values : Bool → List A) → storesNone r ≡ true → store ≡ stored r store values
 stored-none Is.Null store values e = refl
 stored-none (Is.Point code p) store values e = refl
 stored-none (Is.Parts code m body) store values e = cc

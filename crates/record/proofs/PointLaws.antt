@@ -1,7 +1,7 @@
 -- Laws of points: where their doubles stand, and what the definition says by the size and by the bytes that are there.
 use mathlib.Core.Path.{_≡_, refl, sym, ap, ap₂, _∙_}
-use mathlib.Core.Bool.{Bool, true, false, cond, not}
-use mathlib.Core.List.{List, _∷_}
+use mathlib.Core.Bool.{Bool, true, false, cond}
+use mathlib.Core.List.{List}
 use Prim.Native.Nat.{ℕ, _+_, _*_, _-_, _/_, _≤_, _<_}
 use native.Mathlib.Omega.{arith}
 use lib.Dec.{lit<}
@@ -12,7 +12,7 @@ use Rattle.format.specs.declared.lengths.Lengths.{Lengths}
 use Rattle.format.specs.declared.units.Bytes.{Bytes}
 use Rattle.format.specs.Lengths.{onePoint, contentWords, lengthsFor}
 use Rattle.format.specs.Order.{first, fieldsFrom}
-use Rattle.format.specs.Said.{Said, gives, short, wrongSize}
+use Rattle.format.specs.Said.{Said, gives, short}
 use Rattle.format.proofs.OrderLaws.{fields-whole, fields-cut}
 use Rattle.record.specs.declared.Point.{Point}
 use Rattle.record.specs.declared.RecordAnswer.the-variants as Is

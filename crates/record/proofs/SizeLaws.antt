@@ -5,21 +5,19 @@ use Prim.Native.Nat.{ℕ, suc, _+_, _*_, _-_, _^_, _≤_, _<_}
 use native.Mathlib.Omega.{arith}
 use lib.Dec.{T, eqb, ltb}
 use lib.IntN.{ℤ, pos, negsuc, _+ℤ_, _-ℤ_}
-use lib.Signed.{ltZ, mag}
-use mir.Syntax.{w32, w64}
-use mir.Val.{SFits, toZ, ofZ}
-use mir.ValLaws.{toZ-ofZ}
-use borrow.Author.Tests.{lt-ltb, le-ltb, ltb-true, ltb-false, eq-eqb, ne-eqb, eqb-true, eqb-false}
+use lib.Signed.{ltZ}
+use mir.Syntax.{w64}
+use mir.Val.{SFits, ofZ}
+use borrow.Author.Tests.{lt-ltb, le-ltb, ltb-true, ltb-false, eqb-true, eqb-false}
 use Rattle.format.specs.declared.kinds.Kind.{Kind}
 use Rattle.format.specs.declared.lengths.Formula.{Formula}
 use Rattle.format.specs.declared.lengths.Lengths.{Lengths}
-use Rattle.format.specs.declared.lengths.Counted.{Counted}
 use Rattle.format.specs.declared.lengths.Counted.the-variants.{Is, Long}
 use Rattle.format.specs.declared.units.Bytes.{Bytes}
 use Rattle.format.specs.declared.units.Words.{Words}
 use Rattle.format.specs.Lengths.{parts, contentWords, lengthsFor, counted, heldWords}
 use Rattle.format.specs.Units.{sameInt, inI32, inBytes}
-use Rattle.format.proofs.UnitLaws.{doubled-fits, same-yes, same-no, same-bits}
+use Rattle.format.proofs.UnitLaws.{same-yes, same-no, same-bits}
 use Rattle.record.specs.Reading.{isWords, hasM, sizeRight}
 use Rattle.record.specs.Steps.{Held, wordsOf, two}
 

@@ -122,9 +122,9 @@ unfoldable pub partsOf : Kind → Bytes → List ℕ → ℕ → ℕ → ℕ →
 partsOf k size s counts xy zs ms =
     andThen (moved (countsOf (drop 4 s)))
     (λ two.
-      cond (sizeRight k size two)
-      (andThen (moved (bodyOf (k .z) (hasM k size two) (drop 4 s) counts xy zs ms)) (λ body. gives (partsShape (codeIn s) (hasM k size two) body)))
-      (wrongSize 0))
+    cond (sizeRight k size two)
+    (andThen (moved (bodyOf (k .z) (hasM k size two) (drop 4 s) counts xy zs ms)) (λ body. gives (partsShape (codeIn s) (hasM k size two) body)))
+    (wrongSize 0))
 
 abbrev pub byForm : Option Form → Kind → Bytes → List ℕ → ℕ → ℕ → ℕ → ℕ → Said Shaped
 byForm none k size s counts xy zs ms = notTaken (codeIn s)

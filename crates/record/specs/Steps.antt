@@ -1,8 +1,8 @@
 -- What the steps of reading a record find, for their contracts: tests whatever follows them, a taken kind, a size, and the stores.
 use mathlib.Core.Path.{_≡_}
-use mathlib.Core.Bool.{Bool, true, false, cond, _&&_}
+use mathlib.Core.Bool.{Bool, true, false, cond}
 use mathlib.Core.List.{List, [], _∷_, _++_}
-use mathlib.Core.Option.{Option, some}
+use mathlib.Core.Option.{some}
 use Prim.Native.Nat.{ℕ, _+_, _*_, _≤_}
 use lib.Ieee.{Float, binary64, ofInt}
 use lib.IntN.{ℤ, pos, _-ℤ_}
@@ -28,7 +28,7 @@ use Rattle.record.specs.declared.front.Front.{Front}
 use Rattle.record.specs.declared.front.Front.the-variants as FrontIs
 use Rattle.record.specs.declared.sizes.Sized.{Sized}
 use Rattle.record.specs.declared.sizes.Sized.the-variants as SizedIs
-use Rattle.record.specs.Reading.{Shaped, partsShape, codeIn, kindAt, isTaken, mismatchTests, isWords, moved, andThen, hasM, sizeRight, saidRecord, stored}
+use Rattle.record.specs.Reading.{Shaped, partsShape, codeIn, kindAt, isTaken, mismatchTests, moved, andThen, hasM, sizeRight, saidRecord, stored}
 
 -- ---- the tests in front of the shape
 

@@ -1,5 +1,4 @@
 // What is judged before a record's shape: the wanted kind, the kind's field, the size, and whether the kind is wanted and taken.
-ghost use mathlib.Core.Path.{_≡_};
 ghost use Rattle.record.specs.Reading.{wantedTests, mismatchTests, frontTests};
 ghost use Rattle.record.specs.Steps.{Judges, foundTests, Fronts};
 use crate::RecordAnswer;

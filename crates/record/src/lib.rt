@@ -1,5 +1,4 @@
 // Reading a record: dispatch by kind, Null, points, and bodies with parts.
-ghost use mathlib.Core.Path.{_≡_};
 ghost use lib.ListN.{length, drop};
 ghost use Rattle.format.specs.Lengths.{formOf};
 ghost use Rattle.record.specs.Reading.{byForm, ReadsRecord};

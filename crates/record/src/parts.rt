@@ -1,6 +1,6 @@
 // Bodies with parts behind the kind's field: offsets are counted from the content's first byte, 4 before the body's.
 ghost use mathlib.Core.Path.{_≡_};
-ghost use Prim.Native.Nat.{_+_, _≤_, _<_, _^_};
+ghost use Prim.Native.Nat.{_+_};
 ghost use lib.ListN.{length};
 ghost use Rattle.format.specs.Lengths.{parts, lengthsFor};
 ghost use Rattle.record.specs.Steps.{Held, Reads, restFrom, partsFrom};

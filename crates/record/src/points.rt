@@ -1,6 +1,6 @@
 // Points: the size is the kind's, and X, Y, Z if any and M if any are each a field.
 ghost use mathlib.Core.Path.{_≡_};
-ghost use mathlib.Core.Bool.{true, cond};
+ghost use mathlib.Core.Bool.{cond};
 ghost use Prim.Native.Nat.{_+_, _*_, _≤_};
 ghost use lib.ListN.{length};
 ghost use Rattle.format.specs.Lengths.{onePoint, lengthsFor};
@@ -53,7 +53,12 @@ fn point_at(s: &[u8], k: Kind) -> Point
     let y = fields::le_f64_at(s, 12);
     let z = double_if(s, k.z, 20);
     let m = double_if(s, k.m, m_at(k.z));
-    Point { x: x, y: y, z: z, m: m }
+    Point {
+        x: x,
+        y: y,
+        z: z,
+        m: m,
+    }
 }
 
 pub(crate) fn read_point(s: &[u8], code: i32, k: Kind, l: Lengths, size: Bytes) -> RecordAnswer

@@ -7,10 +7,10 @@ use Prim.Native.Nat.{ℕ, _+_, _*_, _-_, _^_, min}
 use lib.Dec.{leb, ltb, eqb}
 use lib.Ieee.{Float}
 use lib.IntN.{ℤ, pos, natAbs}
-use lib.ListN.{length, getD}
+use lib.ListN.{length}
 use lib.Seq.{sets}
 use Rattle.format.specs.declared.kinds.Kind.{Kind}
-use Rattle.format.specs.Encoding.{Entry, recordBytes, entryBytes, shapeWords}
+use Rattle.format.specs.Encoding.{recordBytes, entryBytes, shapeWords}
 use Rattle.format.specs.Kinds.{known, kind}
 use Rattle.format.specs.Lengths.{Form, nothing, onePoint, parts}
 use Rattle.format.specs.Order.{first}
@@ -19,7 +19,7 @@ use Rattle.format.specs.Shapes.{Shape, null, point, parted}
 use Rattle.format.specs.Units.{sameInt}
 use Rattle.header.specs.declared.bbox.BBoxZ.{BBoxZ}
 use Rattle.layouts.specs.Answers.{agree, countsHeld}
-use Rattle.layouts.specs.Tables.{sum, bits, pointsOf, partsOf}
+use Rattle.layouts.specs.Tables.{bits, pointsOf, partsOf}
 use Rattle.writer.specs.declared.State.{State}
 use Rattle.writer.specs.declared.AddAnswer.{AddAnswer}
 use Rattle.writer.specs.declared.AddAnswer.the-variants.{Added, Size, Unknown, NotTaken, Mismatch, Tables, Long, Room}
@@ -35,6 +35,9 @@ pub record Lent : Type 0 where
   pub xy : List Float
   pub zs : List Float
   pub ms : List Float
+
+abbrev pub lent : ℤ → BBoxZ → List ℕ → List Float → List Float → List Float → Lent
+lent code b counts xy zs ms = record { code = code; box = b; counts = counts; xy = xy; zs = zs; ms = ms }
 
 -- the kind of the code, and its form; what is not in the table is refused before either is used
 abbrev pub kindOr : Option Kind → Kind
@@ -158,3 +161,7 @@ pub record Adds (s : State) (t : Lent) (out : List ℕ) (start : ℕ) (entry : L
   pub state-is : r .state ≡ unlessRefused (saidAdd (r .answer)) s (nextState s t)
   pub out-is : out′ ≡ unlessRefused (saidAdd (r .answer)) out (sets out start (recordOf s t))
   pub entry-is : entry′ ≡ unlessRefused (saidAdd (r .answer)) entry (sets entry 0 (entryOf s t))
+
+-- the answer and the state, where the state is lent and the answer alone comes back
+abbrev pub adding : AddAnswer → State → Adding
+adding answer s = record { answer = answer; state = s }

@@ -1,7 +1,6 @@
 -- The header's box: what a record gives to it, and how it grows.
-use mathlib.Core.Bool.{Bool, true, false, cond, _&&_}
+use mathlib.Core.Bool.{Bool, cond, _&&_}
 use mathlib.Core.List.{List}
-use Prim.Native.Nat.{ℕ}
 use lib.Ieee.{Float, binary64, ofBits, ofInt, lt, eq}
 use lib.IntN.{pos}
 use lib.ListN.{getD}

@@ -2,4 +2,5 @@
 pub mod Adding
 pub mod Boxes
 pub mod Finishing
+pub mod Judging
 pub mod State

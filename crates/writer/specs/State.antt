@@ -1,5 +1,5 @@
 -- The writer's state: the words written so far, the next record's number, the kind and the box.
-use mathlib.Core.Bool.{Bool, true, false, cond, _&&_, _||_, not}
+use mathlib.Core.Bool.{Bool, true, false, _&&_, _||_, not}
 use mathlib.Core.Option.{Option, none, some}
 use Prim.Native.Nat.{ℕ, _+_, _*_, _-_}
 use lib.Dec.{leb, eqb}
@@ -9,7 +9,6 @@ use lib.Signed.{nonNeg}
 use Rattle.format.specs.declared.kinds.Kind.{Kind}
 use Rattle.format.specs.Kinds.{kinds, rowOf}
 use Rattle.format.specs.Lengths.{Form, formOf}
-use Rattle.header.specs.declared.bbox.BBoxZ.{BBoxZ}
 use Rattle.writer.specs.declared.State.{State}
 use Rattle.writer.specs.Boxes.{zeroBox}
 

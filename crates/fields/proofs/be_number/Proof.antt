@@ -1,10 +1,8 @@
-use mathlib.Core.Path.{_≡_, refl, sym, ap, _∙_}
-use Prim.Native.Nat.{ℕ, suc, _+_, _*_, _-_, _/_, _%_, _^_, _≤_, _<_}
+use mathlib.Core.Path.{_≡_, refl}
+use Prim.Native.Nat.{_*_, _-_, _^_, _≤_, _<_}
 use native.Mathlib.Omega.{arith}
 use borrow.Author.Needs.{needs}
 use lib.Dec.{lit<}
-use lib.ListN.{length}
-use lib.Pow.{pow-mono}
 use Rattle.format.specs.Bytes.{le, be, field}
 use Rattle.fields.proofs.Turns.{be-turn, turn-fits, turn-lt}
 use Rattle.fields.proofs.be_number.Statement.{statement}

@@ -1,14 +1,12 @@
-use mathlib.Core.Path.{_≡_, refl, sym, ap, _∙_}
-use Prim.Native.Nat.{ℕ, _+_, _*_, _-_, _≤_}
+use mathlib.Core.Path.{_≡_, refl, _∙_}
+use Prim.Native.Nat.{_+_, _*_, _-_, _≤_}
 use native.Mathlib.Nat.{add-zero, sub-zero}
 use native.Mathlib.Omega.{arith}
-use borrow.Author.Needs.{needs}
-use lib.ListN.{length, drop, length-set}
-use lib.Seq.{sets, length-sets}
-use Rattle.format.specs.Numbers.{leF64, f64Le}
-use Rattle.format.specs.Numbers.{doublesAt, f64sLe}
+use lib.ListN.{length, length-set}
+use lib.Seq.{sets}
+use Rattle.format.specs.Numbers.{doublesAt}
 use Rattle.format.proofs.NumberLaws.{length-doublesAt}
-use Rattle.fields.proofs.Turns.{read-turn, write-turn, sets-all}
+use Rattle.fields.proofs.Turns.{read-turn, sets-all}
 use Rattle.fields.proofs.read_doubles.Statement.{statement}
 use Rattle.fields.proofs.read_doubles.Tie as tie
 

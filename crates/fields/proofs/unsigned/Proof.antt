@@ -1,11 +1,10 @@
 -- `fields::unsigned` meets its contract: the complement of a negative number's bits is below 2 ^ 31, and so are the bits of any other.
 -- Assumes nothing.
-use mathlib.Core.Path.{_≡_, refl}
-use Prim.Native.Nat.{ℕ, _-_, _<_, _^_, _≤_}
+use mathlib.Core.Path.{refl}
+use Prim.Native.Nat.{_-_, _<_, _^_}
 use native.Mathlib.Omega.{arith}
-use lib.IntN.{pos}
 use mir.Syntax.{w32}
-use mir.Val.{toZ, ofZ}
+use mir.Val.{ofZ}
 use mir.ValLaws.{toZ-pos, ofZ-fits}
 use Rattle.format.proofs.SignLaws.{neg-bits, non-bits}
 use Rattle.fields.proofs.unsigned.Statement.{statement}

@@ -1,15 +1,12 @@
-use mathlib.Core.Path.{_≡_, refl, sym, ap, _∙_}
+use mathlib.Core.Path.{_≡_, refl, _∙_}
 use mathlib.Core.List.{flatten}
-use Prim.Native.Nat.{ℕ, _+_, _*_, _-_, _≤_}
+use Prim.Native.Nat.{_+_, _*_, _-_, _≤_}
 use native.Mathlib.Nat.{add-zero}
 use native.Mathlib.Omega.{arith}
-use borrow.Author.Needs.{needs}
-use lib.ListN.{length, drop, length-set}
-use lib.Seq.{sets, drop-length, length-sets}
-use Rattle.format.specs.Numbers.{leF64, f64Le}
-use Rattle.format.specs.Numbers.{doublesAt, f64sLe}
-use Rattle.format.proofs.NumberLaws.{length-doublesAt}
-use Rattle.fields.proofs.Turns.{read-turn, write-turn, sets-all}
+use lib.ListN.{length, drop}
+use lib.Seq.{sets, drop-length}
+use Rattle.format.specs.Numbers.{f64sLe}
+use Rattle.fields.proofs.Turns.{write-turn}
 use Rattle.fields.proofs.write_doubles.Statement.{statement}
 use Rattle.fields.proofs.write_doubles.Tie as tie
 

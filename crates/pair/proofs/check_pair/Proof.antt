@@ -1,82 +1,33 @@
--- `pair::check_pair` meets its contract: the first fault of the headers decides, and without one the records do.
-use mathlib.Core.Path.{_≡_, sym, ap, _∙_}
-use mathlib.Core.Option.{some}
+-- `pair::check_pair` meets its contract: the verdict is the rules', and what those mean is proved in `meaning`.
+use mathlib.Core.Path.{subst, sym}
+use mathlib.Core.List.{List}
+use Prim.Native.Nat.{ℕ}
 use borrow.Author.Needs.{needs}
-use Rattle.rules.specs.Rules.{takenIn}
-use Rattle.pair.specs.declared.plans.Plan.{Plan}
-use Rattle.pair.specs.Plans.{planFor, takenFrom}
-use Rattle.pair.specs.Verdicts.{frontFault}
-use Rattle.pair.proofs.PlanLaws.{none-taken, one-taken, rings-parts}
-use Rattle.pair.proofs.VerdictLaws.{by-front, both-long, by-kind, by-back, by-records}
+use Rattle.format.specs.Said.{Said}
+use Rattle.format.proofs.ByteLaws.{AllBytes, all-bytes}
+use Rattle.meaning.specs.Consequences.{Says}
+use Rattle.meaning.proofs.Consequences.{says}
+use Rattle.meaning.proofs.Theorem.{judged}
+use Rattle.rules.specs.Meaning.{Judged}
+use Rattle.rules.specs.Rules.{Counts}
 use Rattle.pair.proofs.check_pair.Statement.{statement}
 use Rattle.pair.proofs.check_pair.Tie as tie
 
-front-fault-requires : tie.Need-front-fault-requires
-front-fault-requires c κs = search needs
+judge-requires : tie.Need-judge-requires
+judge-requires c κs = search needs
 
 returns : tie.Need-returns
-returns c = by-front _ _ (c .before .front-fault .result) (c .before .front-fault .ensures) (c .if1 .taken)
-
--- P1 to P3 are met; and the plan is that of the kind that the rules take
-fine : (c : tie.Else1) → 0 ≡ frontFault (c .before .before .before .before .args .shp .now) (c .before .before .before .before .args .shx .now)
-fine c = sym (c .if1 .left) ∙ c .before .front-fault .ensures
-
-abbrev plan-of : tie.After-known-told → Plan
-plan-of c = c .before .plan .given .0 .0
-
-known : (c : tie.After-known-told)
-    → (takenIn (c .before .before .before .before .before .before .before .before .args .shp .now) ≡ some (takenFrom (plan-of c)))
-    × (plan-of c ≡ planFor (takenFrom (plan-of c)))
-known c = one-taken _ (plan-of c) (sym (c .before .before .before .plan-in .ensures) ∙ c .before .plan .given .1)
-
-plan-in-requires : tie.Need-plan-in-requires
-plan-in-requires c κs = both-long _ _ (fine c) .0
-
-enum-known-plan : tie.Need-enum-known-plan
-enum-known-plan c = search needs
-
-enum-told : tie.Need-enum-told
-enum-told c = search needs
-
-returns-2 : tie.Need-returns-2
-returns-2 c = by-kind _ _ (fine (c .before .before .before)) (none-taken _ (sym (c .before .before .plan-in .ensures) ∙ c .enum-told .given .1))
-
-back-fault-requires : tie.Need-back-fault-requires
-back-fault-requires c κs = both-long _ _ (fine (c .before .before .before .before))
-
-returns-3 : tie.Need-returns-3
-returns-3 c =
-    let k = c .before .before in
-    by-back _ _ (fine (k .before .before .before .before)) (takenFrom (plan-of k)) (known k .0) (c .before .back-fault .result) (c .before .back-fault .ensures) (c .if2 .taken)
-
-walk-requires : tie.Need-walk-requires
-walk-requires c κs =
-    let k = c .before .before in
-    let e = known k .1 in
-    let l = both-long _ _ (fine (k .before .before .before .before)) in (
-      e,
-      λ r. ap (λ (p : Plan). p .parts) e ∙ rings-parts _ (takenFrom (plan-of k)) (known k .0) (sym (ap (λ (p : Plan). p .rings) e) ∙ r),
-      l .0,
-      l .1,
-    )
-
-returns-4 : tie.Need-returns-4
-returns-4 c =
-    let k = c .before .before .before in
-    c .walk .ensures
-    ∙ by-records _ _ (fine (k .before .before .before .before)) (takenFrom (plan-of k)) (known k .0) (sym (c .before .if2 .left) ∙ c .before .before .back-fault .ensures)
+returns c =
+    let shp : List ℕ = c .before .before .before .args .shp .now in
+    let shx : List ℕ = c .before .before .before .args .shx .now in
+    let hs : AllBytes shp = all-bytes shp (λ i. c .before .before .shared-slice-known .given i .fits) in
+    let hx : AllBytes shx = all-bytes shx (λ i. c .before .shared-slice-known2 .given i .fits) in
+    let e = c .judge .ensures in
+    record {
+      by-rules = e;
+      means = subst (λ (v : Said Counts). Judged shp shx v) (sym e) (judged shp shx hs hx);
+      follows = subst (λ (v : Said Counts). Says shp shx v) (sym e) (says shp shx hs hx);
+    }
 
 pub check-pair-spec : {M : Type 1} → statement M
-check-pair-spec =
-    tie.close
-    (tie.spec
-    front-fault-requires
-    returns
-    plan-in-requires
-    enum-known-plan
-    enum-told
-    returns-2
-    back-fault-requires
-    returns-3
-    walk-requires
-    returns-4)
+check-pair-spec = tie.close (tie.spec judge-requires returns)

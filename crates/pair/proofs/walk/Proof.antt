@@ -18,35 +18,35 @@ use Rattle.pair.proofs.walk.Statement.{statement}
 use Rattle.pair.proofs.walk.Tie as tie
 
 abbrev Inv-parts : tie.InvT-parts
-Inv-parts plan shp shx at ix records parts points fault words p n start₀ left₀ cur₀ start left cur =
+Inv-parts plan shp shx at ix records parts points k fault words p n start₀ left₀ cur₀ start left cur =
     (start + 4 * left ≡ start₀ + 4 * left₀) × (left ≤ left₀) × (cur < 2 ^ 32)
     × (partsLong (plan .least) left start cur n shp ≡ partsLong (plan .least) left₀ start₀ cur₀ n shp)
 
 abbrev μ-parts : tie.MeasureT-parts
-μ-parts plan shp shx at ix records parts points fault words p n start₀ left₀ cur₀ start left cur = left
+μ-parts plan shp shx at ix records parts points k fault words p n start₀ left₀ cur₀ start left cur = left
 
 abbrev Inv-rings : tie.InvT-rings
-Inv-rings plan shp shx at ix records parts points fault words p n start left cur pairs next₀ rings₀ from₀ next rings from =
+Inv-rings plan shp shx at ix records parts points k fault words p n start left cur pairs next₀ rings₀ from₀ next rings from =
     (next + 4 * rings ≡ next₀ + 4 * rings₀) × (rings ≤ rings₀) × (partsLong (plan .least) rings next from n shp ≡ true)
     × (ringsClosed pairs rings next from n shp ≡ ringsClosed pairs rings₀ next₀ from₀ n shp)
 
 abbrev μ-rings : tie.MeasureT-rings
-μ-rings plan shp shx at ix records parts points fault words p n start left cur pairs next₀ rings₀ from₀ next rings from = rings
+μ-rings plan shp shx at ix records parts points k fault words p n start left cur pairs next₀ rings₀ from₀ next rings from = rings
 
 abbrev Inv-front : tie.InvT-front
-Inv-front plan shp shx at ix records parts points fault words p n start left cur pairs next rings from front₀ fronts₀ front fronts =
+Inv-front plan shp shx at ix records parts points k fault words p n start left cur pairs next rings from front₀ fronts₀ front fronts =
     (front + 8 * fronts ≡ front₀ + 8 * fronts₀) × (finites fronts front shp ≡ finites fronts₀ front₀ shp)
 
 abbrev μ-front : tie.MeasureT-front
-μ-front plan shp shx at ix records parts points fault words p n start left cur pairs next rings from front₀ fronts₀ front fronts = fronts
+μ-front plan shp shx at ix records parts points k fault words p n start left cur pairs next rings from front₀ fronts₀ front fronts = fronts
 
 abbrev Inv-doubles : tie.InvT-doubles
-Inv-doubles plan shp shx at ix records parts points fault words p n start left cur pairs next rings from front fronts double₀ doubles₀ double doubles =
+Inv-doubles plan shp shx at ix records parts points k fault words p n start left cur pairs next rings from front fronts double₀ doubles₀ double doubles =
     (double + 8 * doubles ≡ double₀ + 8 * doubles₀) × (doubles ≤ doubles₀)
     × (finites doubles double shp ≡ finites doubles₀ double₀ shp)
 
 abbrev μ-doubles : tie.MeasureT-doubles
-μ-doubles plan shp shx at ix records parts points fault words p n start left cur pairs next rings from front fronts double₀ doubles₀ double doubles = doubles
+μ-doubles plan shp shx at ix records parts points k fault words p n start left cur pairs next rings from front fronts double₀ doubles₀ double doubles = doubles
 
 abbrev Inv-walk : tie.InvT-walk
 Inv-walk plan shp shx at₀ ix₀ records₀ parts₀ points₀ at ix records parts points =
@@ -132,8 +132,8 @@ small c = (omega arith, omega arith, omega arith)
 
 opened : (c : Opened) → Open (plan-of (c .before .before .before)) (shp-of (c .before .before .before)) (shx-of (c .before .before .before)) (c .before .before .before .walk .at) (c .before .before .before .walk .ix) (c .before .before .before .walk .records)
 opened c =
-    let e = c .before .before .before .before .before .before in
-    record { is = e .pre .0; ringed = e .pre .1; inside = c .before .before .if1 .left; hd = sym (c .if3 .left) ∙ c .before .head-fault .ensures }
+    let s = c .before .before .before .before .before .before in
+    record { is = s .pre .0; ringed = s .pre .1; inside = c .before .before .if1 .left; hd = sym (c .if3 .left) ∙ c .before .head-fault .ensures }
 
 worded : (c : Worded) → Room (plan-of (c .before .before .before .before)) (shp-of (c .before .before .before .before)) (shx-of (c .before .before .before .before)) (c .before .before .before .before .walk .at) (c .before .before .before .before .walk .ix) (c .big .result)
 worded c = room (opened (c .before)) (c .big .result) (c .big .ensures .value)
@@ -210,17 +210,11 @@ walk-holds c =
       rest = refl;
     }
 
-add-t31 : tie.Need-add-t31 Inv-parts μ-parts Inv-rings μ-rings Inv-front μ-front Inv-doubles μ-doubles Inv-walk μ-walk
-add-t31 c = search needs
-
-add-head-fault : tie.Need-add-head-fault Inv-parts μ-parts Inv-rings μ-rings Inv-front μ-front Inv-doubles μ-doubles Inv-walk μ-walk
-add-head-fault c = search needs
+add-k : tie.Need-add-k Inv-parts μ-parts Inv-rings μ-rings Inv-front μ-front Inv-doubles μ-doubles Inv-walk μ-walk
+add-k c = search needs
 
 head-fault-requires : tie.Need-head-fault-requires Inv-parts μ-parts Inv-rings μ-rings Inv-front μ-front Inv-doubles μ-doubles Inv-walk μ-walk
 head-fault-requires c κs = (c .before .before .before .before .pre .0, c .before .walk .inv .low, c .before .walk .inv .xlow)
-
-add-t32 : tie.Need-add-t32 Inv-parts μ-parts Inv-rings μ-rings Inv-front μ-front Inv-doubles μ-doubles Inv-walk μ-walk
-add-t32 c = search needs
 
 add-big : tie.Need-add-big Inv-parts μ-parts Inv-rings μ-rings Inv-front μ-front Inv-doubles μ-doubles Inv-walk μ-walk
 add-big c = search needs
@@ -239,9 +233,6 @@ points-at-requires c κs = λ e. let r = worded (c .before) in omega (arith, r .
 begins-requires : tie.Need-begins-requires Inv-parts μ-parts Inv-rings μ-rings Inv-front μ-front Inv-doubles μ-doubles Inv-walk μ-walk
 begins-requires c κs = λ e. omega (arith, counts-room (here c) e, fitted c .within)
 
-add-t34 : tie.Need-add-t34 Inv-parts μ-parts Inv-rings μ-rings Inv-front μ-front Inv-doubles μ-doubles Inv-walk μ-walk
-add-t34 c = omega (arith, small (c .before .before .before .before .before .before .before))
-
 add-start : tie.Need-add-start Inv-parts μ-parts Inv-rings μ-rings Inv-front μ-front Inv-doubles μ-doubles Inv-walk μ-walk
 add-start c = omega (arith, small (c .before .before .before .before .before .before .before))
 
@@ -258,9 +249,6 @@ end-of-requires c κs =
 
 add-if5 : tie.Need-add-if5 Inv-parts μ-parts Inv-rings μ-rings Inv-front μ-front Inv-doubles μ-doubles Inv-walk μ-walk
 add-if5 c = omega (arith, c .before .before .before .parts .inv .2, fitted (c .before .before .before .before .before .before) .least-few)
-
-add-t37 : tie.Need-add-t37 Inv-parts μ-parts Inv-rings μ-rings Inv-front μ-front Inv-doubles μ-doubles Inv-walk μ-walk
-add-t37 c = omega (arith, small (c .before .before .before .before .before .before .before .before .before .before .before .before))
 
 add-start-2 : tie.Need-add-start-2 Inv-parts μ-parts Inv-rings μ-rings Inv-front μ-front Inv-doubles μ-doubles Inv-walk μ-walk
 add-start-2 c =
@@ -321,9 +309,6 @@ closed-requires c κs =
     let r = ring c in
     omega (arith, ring-room (c .before), f .within, f .least-some, r .long, r .within)
 
-add-t41 : tie.Need-add-t41 Inv-parts μ-parts Inv-rings μ-rings Inv-front μ-front Inv-doubles μ-doubles Inv-walk μ-walk
-add-t41 c = omega (arith, small (c .before .before .before .before .before .before .before .before .before .before .before .before .before .before .before))
-
 add-next-2 : tie.Need-add-next-2 Inv-parts μ-parts Inv-rings μ-rings Inv-front μ-front Inv-doubles μ-doubles Inv-walk μ-walk
 add-next-2 c =
     let f = fitted (c .before .before .before .before .before .before .before .before .before .before) in
@@ -358,9 +343,6 @@ is-finite-requires c κs =
     let f = fitted (c .before .before .before .before .before .before .before .before .before .before) in
     omega (arith, f .within, f .in-front, c .before .before .front-doubles .ensures, c .before .front .inv .0, c .front-test .taken)
 
-add-t44 : tie.Need-add-t44 Inv-parts μ-parts Inv-rings μ-rings Inv-front μ-front Inv-doubles μ-doubles Inv-walk μ-walk
-add-t44 c = omega (arith, small (c .before .before .before .before .before .before .before .before .before .before .before .before .before .before .before .before .before))
-
 sub-fronts : tie.Need-sub-fronts Inv-parts μ-parts Inv-rings μ-rings Inv-front μ-front Inv-doubles μ-doubles Inv-walk μ-walk
 sub-fronts c = search needs
 
@@ -388,9 +370,6 @@ is-finite-requires-2 : tie.Need-is-finite-requires-2 Inv-parts μ-parts Inv-ring
 is-finite-requires-2 c κs =
     let f = fitted (c .before .before .before .before .before .before .before .before .before .before .before .before .before) in
     omega (arith, f .within, double-room c, c .before .doubles .inv .0, c .doubles-test .taken)
-
-add-t47 : tie.Need-add-t47 Inv-parts μ-parts Inv-rings μ-rings Inv-front μ-front Inv-doubles μ-doubles Inv-walk μ-walk
-add-t47 c = omega (arith, small (c .before .before .before .before .before .before .before .before .before .before .before .before .before .before .before .before .before .before .before .before))
 
 sub-doubles : tie.Need-sub-doubles Inv-parts μ-parts Inv-rings μ-rings Inv-front μ-front Inv-doubles μ-doubles Inv-walk μ-walk
 sub-doubles c = search needs
@@ -423,9 +402,6 @@ add-at-2 c = omega (arith, c .in-bytes .ensures, fitted (c .before .before .befo
 
 add-ix : tie.Need-add-ix Inv-parts μ-parts Inv-rings μ-rings Inv-front μ-front Inv-doubles μ-doubles Inv-walk μ-walk
 add-ix c = omega (arith, small (c .before .before .before .before .before .before .before .before .before .before .before .before .before .before .before .before .before .before .before))
-
-add-records : tie.Need-add-records Inv-parts μ-parts Inv-rings μ-rings Inv-front μ-front Inv-doubles μ-doubles Inv-walk μ-walk
-add-records c = omega (arith, small (c .before .before .before .before .before .before .before .before .before .before .before .before .before .before .before .before .before .before .before))
 
 add-parts : tie.Need-add-parts Inv-parts μ-parts Inv-rings μ-rings Inv-front μ-front Inv-doubles μ-doubles Inv-walk μ-walk
 add-parts c =
@@ -520,22 +496,18 @@ walk-spec =
     Inv-walk
     μ-walk
     walk-holds
-    add-t31
-    add-head-fault
+    add-k
     head-fault-requires
-    add-t32
     add-big
     big-requires
     parts-at-requires
     points-at-requires
     begins-requires
-    add-t34
     add-start
     parts-holds
     sub-left
     end-of-requires
     add-if5
-    add-t37
     add-start-2
     parts-less
     parts-again
@@ -548,7 +520,6 @@ walk-spec =
     sub-rings
     end-of-requires-2
     closed-requires
-    add-t41
     add-next-2
     rings-less
     rings-again
@@ -556,7 +527,6 @@ walk-spec =
     front-doubles-requires
     front-holds
     is-finite-requires
-    add-t44
     sub-fronts
     add-front-2
     front-less
@@ -564,7 +534,6 @@ walk-spec =
     back-doubles-requires
     doubles-holds
     is-finite-requires-2
-    add-t47
     sub-doubles
     add-double
     doubles-less
@@ -573,7 +542,6 @@ walk-spec =
     add-at
     add-at-2
     add-ix
-    add-records
     add-parts
     add-points
     walk-less

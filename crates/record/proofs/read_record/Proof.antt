@@ -1,50 +1,59 @@
+-- `record::read_record` meets its contract: what the front refuses is refused, and else the shape of the kind decides.
+use mathlib.Core.Path.{_≡_, subst}
 use borrow.Author.Needs.{needs}
+use Rattle.record.specs.declared.front.Front.{Front}
+use Rattle.record.specs.declared.front.Front.the-variants as FrontIs
+use Rattle.record.specs.Reading.{frontTests}
+use Rattle.record.specs.Steps.{Fronts}
+use Rattle.record.proofs.ShapeLaws.{refused, shaped}
 use Rattle.record.proofs.read_record.Statement.{statement}
 use Rattle.record.proofs.read_record.Tie as tie
-use Rattle.record.proofs.read_record.Reads as reads
-use Rattle.record.proofs.read_record.Lts as lts
-use Rattle.record.proofs.front.judge_front.Reads as judge-front-reads
-use Rattle.record.proofs.read_shape.Reads as read-shape-reads
 
--- src/lib.rt:82:11
+abbrev e1 : tie.After-judge-front → tie.Start
+e1 c = c .before .before .before .before .before .before
+
+told : (c : tie.After-judge-front) (r : Front) → c .judge-front .result ≡ r → Fronts (frontTests (e1 c .args .wanted) (e1 c .args .size) (e1 c .args .s .now)) (e1 c .args .size) (e1 c .args .s .now) r
+told c r e = subst (λ (x : Front). Fronts (frontTests (e1 c .args .wanted) (e1 c .args .size) (e1 c .args .s .now)) (e1 c .args .size) (e1 c .args .s .now) x) e (c .judge-front .ensures)
+
 judge-front-requires : tie.Need-judge-front-requires
 judge-front-requires c κs = search needs
 
--- src/lib.rt:83:24
 enum-known-r : tie.Need-enum-known-r
 enum-known-r c = search needs
 
--- src/lib.rt:84:19
 enum-known-k : tie.Need-enum-known-k
 enum-known-k c = search needs
 
--- src/lib.rt:84:28
 read-shape-requires : tie.Need-read-shape-requires
-read-shape-requires c κs = ?
+read-shape-requires c κs =
+    let g = c .before .before .before .before .before .k .given in
+    told (c .before .before .before .before .before .before .before) (FrontIs.On (g .0 .0) (g .0 .1 .0)) (g .1) .1
 
--- src/lib.rt:71:1
 returns : tie.Need-returns
-returns c = ?
+returns c =
+    let j = c .before .before .before in
+    let a = e1 j in
+    refused (a .args .wanted) (a .args .size) (a .args .s .now) (a .args .counts .now) (a .args .xy .now) (a .args .zs .now) (a .args .ms .now) _ (told j (FrontIs.Refused (c .before .r .given .0 .0)) (c .before .r .given .1))
 
--- src/lib.rt:71:1
 same-length : tie.Need-same-length
 same-length c = search needs
 
--- src/lib.rt:71:1
 same-length-2 : tie.Need-same-length-2
 same-length-2 c = search needs
 
--- src/lib.rt:71:1
 same-length-3 : tie.Need-same-length-3
 same-length-3 c = search needs
 
--- src/lib.rt:71:1
 same-length-4 : tie.Need-same-length-4
 same-length-4 c = search needs
 
--- src/lib.rt:71:1
 returns-2 : tie.Need-returns-2
-returns-2 c = ?
+returns-2 c =
+    let j = c .before .before .before .before .before .before .before .before .before .before .before .before .before .before .before .before in
+    let a = e1 j in
+    let g = c .before .before .before .before .before .before .before .before .before .before .before .before .before .before .k .given in
+    let t = told j (FrontIs.On (g .0 .0) (g .0 .1 .0)) (g .1) in
+    shaped (a .args .wanted) (a .args .size) (a .args .s .now) (a .args .counts .now) (a .args .xy .now) (a .args .zs .now) (a .args .ms .now) (g .0 .0) (g .0 .1 .0) (t .0) (t .1) _ _ _ _ _ (c .before .before .before .before .before .before .before .before .read-shape .ensures)
 
 pub read-record-spec : {M : Type 1} → statement M
 read-record-spec =

@@ -1,63 +1,81 @@
+-- `record::read_shape` meets its contract: the code and the flag of parts pick the form that the definition has.
+use mathlib.Core.Path.{_≡_, _∙_}
+use mathlib.Core.List.{List}
+use Prim.Native.Nat.{ℕ, _-_, _≤_}
+use native.Mathlib.Omega.{arith}
+use lib.ListN.{length, take, drop, length-drop}
+use lib.Seq.{take-all}
+use mir.Syntax.{w32}
+use mir.Val.{toZ, ofZ}
 use borrow.Author.Needs.{needs}
+use Rattle.format.proofs.SignLaws.{back}
+use Rattle.record.specs.Reading.{codeIn}
+use Rattle.record.proofs.ShapeLaws.{null-form, parts-form, point-form, null-shape, point-shape, parts-shape}
 use Rattle.record.proofs.read_shape.Statement.{statement}
 use Rattle.record.proofs.read_shape.Tie as tie
-use Rattle.record.proofs.read_shape.Reads as reads
-use Rattle.record.proofs.read_shape.Lts as lts
-use Rattle.fields.proofs.le_i32_at.Reads as le-i32-at-reads
-use Rattle.record.proofs.parts.read_parts.Reads as read-parts-reads
-use Rattle.record.proofs.points.read_point.Reads as read-point-reads
 
--- src/lib.rt:60:9
+-- the body, as the code lends it
+rest-of : (s : List ℕ) → take (length s - 4) (drop 4 s) ≡ drop 4 s
+rest-of s = let h : length (drop 4 s) ≤ length s - 4 = simp length-drop (omega arith) in take-all (length s - 4) (drop 4 s) h
+
+abbrev e1 : tie.After-le-i32-at → tie.Start
+e1 c = c .before .before .before .before .before .before .before .before
+
+code-back : (c : tie.After-le-i32-at) → toZ w32 (ofZ w32 (c .le-i32-at .result)) ≡ codeIn (e1 c .args .s .now)
+code-back c = back w32 (c .le-i32-at .result) (c .le-i32-at .ok) ∙ c .le-i32-at .ensures
+
 returns : tie.Need-returns
-returns c = ?
+returns c =
+    let a = c .before .before .before .before .before .before .before in
+    null-shape (a .args .k) (a .args .size) (a .args .s .now) (a .args .counts .now) (a .args .xy .now) (a .args .zs .now) (a .args .ms .now) (null-form (a .args .k) (a .args .l) (a .pre .lengths-are) (c .if1 .taken))
 
--- src/lib.rt:62:9
 le-i32-at-requires : tie.Need-le-i32-at-requires
 le-i32-at-requires c κs = search needs
 
--- src/lib.rt:64:45
 sub-read-parts : tie.Need-sub-read-parts
 sub-read-parts c = search needs
 
--- src/lib.rt:64:45
 part-read-parts-start : tie.Need-part-read-parts-start
 part-read-parts-start c = search needs
 
--- src/lib.rt:64:45
 part-read-parts-end : tie.Need-part-read-parts-end
 part-read-parts-end c = search needs
 
--- src/lib.rt:64:9
 read-parts-requires : tie.Need-read-parts-requires
-read-parts-requires c κs = ?
+read-parts-requires c κs =
+    let r = c .before .before .before .before .before .before in
+    let a = e1 r in
+    (a .pre .held, parts-form (a .args .k) (a .args .l) (a .pre .lengths-are) (r .before .if1 .left) (c .before .before .before .before .before .if2 .taken) .1)
 
--- src/lib.rt:66:9
 read-point-requires : tie.Need-read-point-requires
-read-point-requires c κs = ?
+read-point-requires c κs =
+    let r = c .before in
+    let a = e1 r in
+    (a .pre .long, a .pre .held, code-back r, point-form (a .args .k) (a .args .l) (a .pre .lengths-are) (r .before .if1 .left) (c .if2 .left) .1)
 
--- src/lib.rt:46:1
 same-length : tie.Need-same-length
 same-length c = search needs
 
--- src/lib.rt:46:1
 same-length-2 : tie.Need-same-length-2
 same-length-2 c = search needs
 
--- src/lib.rt:46:1
 same-length-3 : tie.Need-same-length-3
 same-length-3 c = search needs
 
--- src/lib.rt:46:1
 same-length-4 : tie.Need-same-length-4
 same-length-4 c = search needs
 
--- src/lib.rt:46:1
 returns-2 : tie.Need-returns-2
-returns-2 c = ?
+returns-2 c =
+    let r = c .before .before .before .before .before .before .before .before .before .before .before .before .before .before .before in
+    let a = e1 r in
+    parts-shape (a .args .k) (a .args .size) (a .args .s .now) (a .args .counts .now) (a .args .xy .now) (a .args .zs .now) (a .args .ms .now) _ (take (length (a .args .s .now) - 4) (drop 4 (a .args .s .now))) _ _ _ _ _ (parts-form (a .args .k) (a .args .l) (a .pre .lengths-are) (r .before .if1 .left) (c .before .before .before .before .before .before .before .before .before .before .before .before .before .before .if2 .taken) .0) (code-back r) (rest-of (a .args .s .now)) (c .before .before .before .before .before .before .before .before .read-parts .ensures)
 
--- src/lib.rt:46:1
 returns-3 : tie.Need-returns-3
-returns-3 c = ?
+returns-3 c =
+    let r = c .before .before in
+    let a = e1 r in
+    point-shape (a .args .k) (a .args .size) (a .args .s .now) (a .args .counts .now) (a .args .xy .now) (a .args .zs .now) (a .args .ms .now) _ (point-form (a .args .k) (a .args .l) (a .pre .lengths-are) (r .before .if1 .left) (c .before .if2 .left) .0) (c .read-point .ensures)
 
 pub read-shape-spec : {M : Type 1} → statement M
 read-shape-spec =

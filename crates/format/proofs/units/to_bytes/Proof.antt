@@ -4,7 +4,6 @@ use lib.IntN.{ℤ, _+ℤ_}
 use mir.Syntax.{w32, w64}
 use mir.Val.{SFits, toZ, ofZ}
 use mir.ValLaws.{toZ-ofZ}
-use Rattle.format.specs.declared.units.Bytes.{Bytes}
 use Rattle.format.proofs.UnitLaws.{wide, doubled-fits}
 use Rattle.format.proofs.units.to_bytes.Statement.{statement}
 use Rattle.format.proofs.units.to_bytes.Tie as tie

@@ -1,14 +1,12 @@
 -- `format::units::to_words` meets its contract: the half, rounded down, is in an i64; the tests say whether it is in an i32 and exact.
-use mathlib.Core.Path.{_≡_, refl, sym, ap, _∙_}
-use mathlib.Core.Bool.{Bool, true, false}
+use mathlib.Core.Path.{_≡_, sym, ap, _∙_}
 use Prim.Native.Nat.{_^_, _<_}
 use lib.IntN.{ℤ, pos, negsuc, _+ℤ_}
 use lib.Signed.{ltZ, mag, shrZ}
 use mir.Syntax.{w32, w64}
 use mir.Val.{SFits, toZ, ofZ}
 use mir.ValLaws.{toZ-ofZ}
-use Rattle.format.specs.declared.units.InWords.the-variants.{Is}
-use Rattle.format.proofs.UnitLaws.{wide, doubled-fits, half-fits, below-i32, above-i32, in-i32, same-bits, not-held, not-even, is-half}
+use Rattle.format.proofs.UnitLaws.{doubled-fits, half-fits, below-i32, above-i32, in-i32, same-bits, not-held, not-even, is-half}
 use Rattle.format.proofs.units.to_words.Statement.{statement}
 use Rattle.format.proofs.units.to_words.Tie as tie
 

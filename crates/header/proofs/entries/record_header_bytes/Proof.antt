@@ -1,6 +1,6 @@
 -- `header::entries::record_header_bytes` meets its contract: the two numbers are those of the fields.
 use mathlib.Core.Path.{ap₂, _∙_}
-use mathlib.Core.List.{List, _++_}
+use mathlib.Core.List.{_++_}
 use lib.IntN.{ℤ}
 use mir.Syntax.{w32}
 use mir.Val.{SFits}

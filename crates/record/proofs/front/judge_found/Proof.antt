@@ -1,11 +1,8 @@
 -- `record::front::judge_found` meets its contract: one place after the other of the order, by the law of that place.
-use mathlib.Core.Path.{_≡_, refl, sym, ap, _∙_, subst}
-use mathlib.Core.Bool.{Bool, true, false}
-use mathlib.Core.List.{List}
+use mathlib.Core.Path.{_≡_, ap, _∙_, subst}
+use mathlib.Core.Bool.{true}
 use mathlib.Core.Option.{some}
-use Prim.Native.Nat.{ℕ}
-use lib.IntN.{ℤ, pos, negsuc, natAbs}
-use lib.Signed.{ltZ}
+use lib.IntN.{ℤ, natAbs}
 use mir.Syntax.{w32, w64}
 use mir.Val.{SFits, toZ, ofZ}
 use mir.ValLaws.{toZ-ofZ}
@@ -15,9 +12,8 @@ use Rattle.format.specs.Lengths.{contentOf}
 use Rattle.format.proofs.SignLaws.{back}
 use Rattle.record.specs.declared.front.Judged.{Judged}
 use Rattle.record.specs.declared.front.Judged.the-variants as JudgedIs
-use Rattle.record.specs.declared.RecordAnswer.the-variants as Is
 use Rattle.record.specs.Reading.{codeIn, kindAt, mismatchTests}
-use Rattle.record.specs.Steps.{Refuses, Judges, Held}
+use Rattle.record.specs.Steps.{Judges, Held}
 use Rattle.record.proofs.FrontLaws.{known-is, kind-at, known-casts, taken-no, taken-yes, cut, found-unknown, size-left, found-other, found-not, found-well}
 use Rattle.record.proofs.SizeLaws.{too-low, too-high, held}
 use Rattle.record.proofs.front.judge_found.Statement.{statement}
@@ -163,8 +159,8 @@ returns-7 c =
     let s = a4 j in
     let t = taken-yes (codeIn (s .args .s .now)) _ (kind-here k) _ _ (content-found l) (c .before .lengths .given .1) in (
       found-well (s .args .wanted) (s .args .size) (s .args .s .now) (k .before .before .before .before .before .if1 .left) (is-known k) (is-held (j .before))
-      (judged j JudgedIs.On (l .before .enum-told2 .given .1))
-      (t .0),
+          (judged j JudgedIs.On (l .before .enum-told2 .given .1))
+          (t .0),
       record { long = k .before .before .before .before .before .if1 .left; held = is-held (j .before); kind-is = kind-here k; lengths-are = t .1 },
     )
 

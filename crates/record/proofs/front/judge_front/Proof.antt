@@ -1,5 +1,5 @@
 -- `record::front::judge_front` meets its contract: the wanted kind is judged first, and what follows it decides else.
-use mathlib.Core.Path.{_≡_, sym, subst}
+use mathlib.Core.Path.{_≡_, subst}
 use borrow.Author.Needs.{needs}
 use Rattle.record.specs.declared.front.Judged.{Judged}
 use Rattle.record.specs.declared.front.Judged.the-variants as JudgedIs

@@ -1,5 +1,5 @@
 -- `record::front::judge_match` meets its contract: no kind has no tests, and a kind is compared by its bits.
-use mathlib.Core.Path.{_≡_, refl, sym, subst}
+use mathlib.Core.Path.{refl, sym, subst}
 use mir.Syntax.{w32}
 use mir.Val.{SFits}
 use borrow.Author.Needs.{needs}

@@ -1,10 +1,5 @@
 -- `record::points::point_at` meets its contract: each double is there, by the two flags.
-use mathlib.Core.Path.{_≡_, ap, _∙_}
-use lib.IntN.{pos}
-use lib.ListN.{length}
 use borrow.Author.Needs.{needs}
-use Rattle.format.specs.declared.kinds.Kind.{Kind}
-use Rattle.record.specs.Steps.{doubleIf}
 use Rattle.record.proofs.PointLaws.{z-inside, m-inside}
 use Rattle.record.proofs.points.point_at.Statement.{statement}
 use Rattle.record.proofs.points.point_at.Tie as tie

@@ -1,5 +1,5 @@
 -- `record::points::read_point` meets its contract: the size, then the doubles, of which the first one cut decides.
-use mathlib.Core.Path.{_≡_, sym, ap, _∙_}
+use mathlib.Core.Path.{sym, _∙_}
 use mir.Syntax.{w32}
 use borrow.Author.Tests.{not-true, not-false}
 use borrow.Author.Needs.{needs}

@@ -1,0 +1,136 @@
+-- Laws of the whole: which form a taken kind has, and how what the front and the shape say is what the record says.
+use mathlib.Core.Path.{_≡_, refl, sym, ap, _∙_}
+use mathlib.Core.Bool.{Bool, true, false, cond, _||_}
+use mathlib.Core.List.{List}
+use mathlib.Core.Option.{Option, none, some, Option·map}
+use Prim.Native.Nat.{ℕ}
+use lib.Dec.{eqb}
+use lib.Ieee.{Float}
+use lib.IntN.{ℤ}
+use lib.ListN.{length, drop}
+use borrow.Author.Tests.{eq-eqb, ne-eqb}
+use Rattle.format.specs.declared.kinds.Kind.{Kind}
+use Rattle.format.specs.declared.lengths.Lengths.{Lengths}
+use Rattle.format.specs.declared.units.Bytes.{Bytes}
+use Rattle.format.specs.Lengths.{Form, nothing, onePoint, parts, formOf, lengthsFor, lengthsOf}
+use Rattle.format.specs.Said.{Said}
+use Rattle.multipart.specs.Body.{zIn, mIn}
+use Rattle.record.specs.declared.Wanted.{Wanted}
+use Rattle.record.specs.declared.RecordAnswer.{RecordAnswer}
+use Rattle.record.specs.declared.RecordAnswer.the-variants as Is
+use Rattle.record.specs.Reading.{Shaped, codeIn, kindOr, formIn, frontTests, pointOf, partsOf, byForm, recordOf, stored, ReadsRecord}
+use Rattle.record.specs.Steps.{Passes, Refuses, Takes, Answers, Reads, restFrom, partsFrom}
+use Rattle.record.proofs.PartsLaws.{stored-none}
+
+-- ---- the form of a kind that has lengths
+
+module _ (k : Kind) (l : Lengths) (t : lengthsOf k ≡ some l) where
+  untaken : Bool
+  untaken = eqb (k .code) 8 || eqb (k .code) 18 || eqb (k .code) 28 || eqb (k .code) 31
+
+  form : Option Form
+  form = cond (eqb (k .code) 0) (some nothing) (cond (k .parts) (some parts) (some onePoint))
+
+  form-is : formOf k ≡ form
+  unfolding lengthsOf formOf untaken form
+  form-is = by untaken t
+    where
+      by : (b : Bool) → Option·map (lengthsFor k) (cond b none form) ≡ some l → cond b none form ≡ form
+      by true e = cc
+      by false e = refl
+
+  lengths-are : (f : Form) → formOf k ≡ some f → l ≡ lengthsFor k f
+  unfolding lengthsOf
+  lengths-are f e = by (Option·map (lengthsFor k) (some f)) refl (sym t ∙ ap (Option·map (lengthsFor k)) e)
+    where
+      by : (o : Option Lengths) → o ≡ some (lengthsFor k f) → some l ≡ o → l ≡ lengthsFor k f
+      by o p q = cc
+
+  pub null-form : k .code ≡ 0 → formOf k ≡ some nothing
+  unfolding form
+  null-form e = form-is ∙ rw (eq-eqb (k .code) 0 e)
+
+  module _ (n : k .code ≡ 0 → ⊥) where
+    pub parts-form : k .parts ≡ true → (formOf k ≡ some parts) × (l ≡ lengthsFor k parts)
+    unfolding form
+    parts-form e =
+        let f : formOf k ≡ some parts = form-is ∙ rw (ne-eqb (k .code) 0 n, e) in
+        (f, lengths-are parts f)
+
+    pub point-form : k .parts ≡ false → (formOf k ≡ some onePoint) × (l ≡ lengthsFor k onePoint)
+    unfolding form
+    point-form e =
+        let f : formOf k ≡ some onePoint = form-is ∙ rw (ne-eqb (k .code) 0 n, e) in
+        (f, lengths-are onePoint f)
+
+-- ---- the shape by its form
+
+module _ (k : Kind) (size : Bytes) (s counts : List ℕ) (xy zs ms : List Float) where
+  abbrev said : Option Form → Said Shaped
+  said o = byForm o k size s (length counts) (length xy) (length zs) (length ms)
+
+  abbrev Shape : RecordAnswer → List ℕ → List Float → List Float → List Float → Type 0
+  Shape r counts′ xy′ zs′ ms′ = Reads (said (formOf k)) (k .z) (drop 4 s) counts xy zs ms r counts′ xy′ zs′ ms′
+
+  -- nothing is stored
+  plain : (o : Option Form) (r : RecordAnswer) → formOf k ≡ o → Answers (said o) r → Shape r counts xy zs ms
+  plain o r e h =
+      record {
+        says = h .says ∙ ap said (sym e);
+        counts-are = stored-none r counts _ (h .none);
+        xy-are = stored-none r xy _ (h .none);
+        z-are = stored-none r zs _ (h .none);
+        m-are = stored-none r ms _ (h .none);
+      }
+
+  pub null-shape : formOf k ≡ some nothing → Shape Is.Null counts xy zs ms
+  null-shape e = plain (some nothing) Is.Null e (record { says = refl; none = refl })
+
+  pub point-shape : (r : RecordAnswer) → formOf k ≡ some onePoint → Answers (pointOf k size s) r → Shape r counts xy zs ms
+  point-shape r e h = plain (some onePoint) r e h
+
+  parts-are : partsFrom (codeIn s) k size (drop 4 s) (length counts) (length xy) (length zs) (length ms) ≡ partsOf k size s (length counts) (length xy) (length zs) (length ms)
+  unfolding partsFrom partsOf restFrom
+  parts-are = refl
+
+  pub parts-shape : (code : ℤ) (b : List ℕ) (r : RecordAnswer) (counts′ : List ℕ) (xy′ zs′ ms′ : List Float) → formOf k ≡ some parts → code ≡ codeIn s → b ≡ drop 4 s → Reads (partsFrom code k size b (length counts) (length xy) (length zs) (length ms)) (k .z) b counts xy zs ms r counts′ xy′ zs′ ms′ → Shape r counts′ xy′ zs′ ms′
+  parts-shape code b r counts′ xy′ zs′ ms′ e f g h =
+      let i : Reads (partsFrom (codeIn s) k size (drop 4 s) (length counts) (length xy) (length zs) (length ms)) (k .z) (drop 4 s) counts xy zs ms r counts′ xy′ zs′ ms′ = rw (f, g) at h in
+      record {
+        says = i .says ∙ (parts-are ∙ ap said (sym e));
+        counts-are = i .counts-are;
+        xy-are = i .xy-are;
+        z-are = i .z-are;
+        m-are = i .m-are;
+      }
+
+-- ---- the record
+
+module _ (wanted : Wanted) (size : Bytes) (s counts : List ℕ) (xy zs ms : List Float) where
+  pub refused : (r : RecordAnswer) → Refuses (frontTests wanted size s) r → ReadsRecord wanted size s counts xy zs ms r counts xy zs ms
+  unfolding recordOf
+  refused r h =
+      record {
+        says = h .says _;
+        counts-are = stored-none r counts _ (h .none);
+        xy-are = stored-none r xy _ (h .none);
+        z-are = stored-none r zs _ (h .none);
+        m-are = stored-none r ms _ (h .none);
+      }
+
+  module _ (k : Kind) (l : Lengths) (p : Passes (frontTests wanted size s)) (t : Takes size s k l) where
+    by-kind : byForm (formOf k) k size s (length counts) (length xy) (length zs) (length ms) ≡ recordOf wanted size s (length counts) (length xy) (length zs) (length ms)
+    unfolding recordOf
+    by-kind =
+        ap (λ (o : Option Kind). byForm (formIn o) (kindOr o) size s (length counts) (length xy) (length zs) (length ms)) (sym (t .kind-is))
+        ∙ sym (p _)
+
+    pub shaped : (r : RecordAnswer) (counts′ : List ℕ) (xy′ zs′ ms′ : List Float) → Reads (byForm (formOf k) k size s (length counts) (length xy) (length zs) (length ms)) (k .z) (drop 4 s) counts xy zs ms r counts′ xy′ zs′ ms′ → ReadsRecord wanted size s counts xy zs ms r counts′ xy′ zs′ ms′
+    shaped r counts′ xy′ zs′ ms′ h =
+        record {
+          says = h .says ∙ by-kind;
+          counts-are = h .counts-are;
+          xy-are = h .xy-are;
+          z-are = h .z-are ∙ ap (λ (o : Option Kind). stored r zs (λ m. zIn (kindOr o .z) (drop 4 s))) (sym (t .kind-is));
+          m-are = h .m-are ∙ ap (λ (o : Option Kind). stored r ms (λ m. mIn (kindOr o .z) m (drop 4 s))) (sym (t .kind-is));
+        }

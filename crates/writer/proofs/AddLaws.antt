@@ -1,0 +1,144 @@
+-- Laws of adding a record that passed every test: what its writers ask, and that what they leave is what document 01 says.
+use mathlib.Core.Path.{_≡_, refl, sym, ap, _∙_, subst}
+use mathlib.Core.Bool.{Bool, true, false, _&&_, _||_, not}
+use mathlib.Core.List.{List, [], _∷_}
+use mathlib.Core.Option.{some}
+use Prim.Native.Nat.{ℕ, zero, suc, _+_, _*_, _-_, _^_, _≤_, _<_}
+use native.Mathlib.Omega.{arith}
+use lib.Dec.{T}
+use lib.IntN.{ℤ, pos, negsuc, natAbs}
+use lib.ListN.{length, getElem?}
+use lib.Seq.{sets}
+use mir.Syntax.{w32}
+use mir.Val.{ofZ}
+use Rattle.format.specs.declared.kinds.Kind.{Kind}
+use Rattle.format.specs.declared.units.Words.{Words}
+use Rattle.format.specs.Encoding.{shapeWords, recordBytes, twoBig}
+use Rattle.format.specs.Kinds.{kinds, rowOf}
+use Rattle.format.specs.Said.{unlessRefused}
+use Rattle.layouts.proofs.TableLaws.{both}
+use Rattle.writer.specs.declared.State.{State}
+use Rattle.writer.specs.declared.AddAnswer.{AddAnswer}
+use Rattle.writer.specs.declared.AddAnswer.the-variants.{Added, Size, Unknown, NotTaken, Mismatch, Tables, Long, Room}
+use Rattle.writer.specs.Adding.{Lent, lentShape, recordOf, entryOf, heldBox, nextState, saidAdd, Adds}
+use Rattle.writer.specs.Boxes.{grown, ownBox}
+use Rattle.writer.specs.Judging.{naturalOf, wordsOf, isRefused, shapeBy, wordsBy, AllPassed, AllRefused, Ready, nextBy}
+use Rattle.writer.specs.State.{kindAt}
+use Rattle.writer.proofs.KindLaws.{code-is}
+use Rattle.writer.proofs.ShapeLaws.{lent-kind, lent-form, shape-is, agreed, words-are}
+use Rattle.writer.proofs.StateLaws.{Fine, fine, number-natural, words-natural}
+
+-- ---- a kind with z has m: one test over the table
+
+fineRow : Kind → Bool
+fineRow k = not (k .z) || k .m
+
+fineRows : List Kind → Bool
+fineRows [] = true
+fineRows (k ∷ l) = fineRow k && fineRows l
+
+row-fine : (l : List Kind) (i : ℕ) (k : Kind) → fineRows l ≡ true → getElem? l i ≡ some k → fineRow k ≡ true
+unfolding fineRows
+row-fine [] i k h e = absurd (let z : _≡_ {A = ℕ} 0 1 = cc in omega arith)
+row-fine (x ∷ l) zero k h e = let q : x ≡ k = cc in subst (λ (y : Kind). fineRow y ≡ true) q (both (fineRow x) (fineRows l) h .0)
+row-fine (x ∷ l) (suc i) k h e = row-fine l i k (both (fineRow x) (fineRows l) h .1) e
+
+has-m : (z m : Bool) → not z || m ≡ true → z ≡ true → m ≡ true
+has-m true m h e = h
+has-m false m h e = absurd (subst T (sym e) tt)
+
+z-has-m : (code : ℤ) (k : Kind) → kindAt code ≡ some k → k .z ≡ true → k .m ≡ true
+unfolding kinds fineRow fineRows
+z-has-m (pos n) k e = has-m (k .z) (k .m) (row-fine kinds (rowOf n kinds) k refl e)
+z-has-m (negsuc n) k e = absurd (let z : _≡_ {A = ℕ} 0 1 = cc in omega arith)
+
+-- ---- a refusal leaves all as it was
+
+refused-keeps {ℓ} : {B : Type ℓ} (a : AddAnswer) (x y : B) → isRefused a ≡ true → x ≡ unlessRefused (saidAdd a) x y
+refused-keeps (Added n) x y e = absurd (subst T (sym e) tt)
+refused-keeps Size x y e = refl
+refused-keeps (Unknown code) x y e = refl
+refused-keeps (NotTaken code) x y e = refl
+refused-keeps (Mismatch wanted found) x y e = refl
+refused-keeps Tables x y e = refl
+refused-keeps Long x y e = refl
+refused-keeps (Room n) x y e = refl
+
+-- ---- what passed
+
+module _ (s : State) (t : Lent) (out start entry : ℕ) (k : Kind) (w : Words) (size : ℕ) (p : AllPassed s t out start entry k w size) where
+  numbers : Fine s
+  numbers = fine s (p .fine)
+
+  shape : lentShape t ≡ shapeBy k (t .box) (t .counts) (t .xy) (t .zs) (t .ms)
+  shape = shape-is t k (p .shape .of-code)
+
+  words : shapeWords (lentShape t) ≡ wordsBy k (t .counts)
+  words = ap shapeWords shape ∙ words-are k (t .box) (t .counts) (t .xy) (t .zs) (t .ms) (agreed k (t .counts) (t .xy) (t .zs) (t .ms) (p .shape .agrees))
+
+  pub starts : start ≤ out
+  starts = omega (arith, p .shape .room)
+
+  pub whole : 8 + 2 * wordsBy k (t .counts) ≤ out - start
+  whole = omega (arith, p .shape .room, words)
+
+  pub ready : (bytes : ℕ) → bytes ≡ out - start → Ready k (t .counts) (t .xy) (t .zs) (t .ms) bytes
+  ready bytes e =
+      record {
+        z-has-m = z-has-m (t .code) k (p .shape .of-code .kind-is);
+        agrees = p .shape .agrees;
+        counts-held = p .shape .counts-held;
+        room = omega (arith, whole);
+      }
+
+  pub code : t .code ≡ pos (k .code)
+  code = code-is (t .code) k (p .shape .of-code .kind-is)
+
+  pub content : w ≡ wordsOf (wordsBy k (t .counts))
+  content = p .shape .words-are ∙ ap wordsOf words
+
+  content-natural : naturalOf (w .0) ≡ shapeWords (lentShape t)
+  content-natural = ap (λ (v : Words). naturalOf (v .0)) (p .shape .words-are)
+
+  pub next-words : naturalOf (s .words .0) + (4 + naturalOf (w .0)) < 2 ^ 31
+  next-words = rw (words-natural s numbers, content-natural) (p .shape .held)
+
+  pub next-number : naturalOf (s .number) + 1 < 2 ^ 31
+  next-number = omega (arith, p .shape .held, numbers .room, number-natural s numbers)
+
+  pub next-is : nextBy s w (t .code) k (t .box) (t .xy) (t .zs) (t .ms) ≡ nextState s t
+  unfolding nextState
+  next-is =
+      λ i.
+      record {
+        words = record { 0 = pos (words-natural s numbers i + (4 + content-natural i)) };
+        number = pos (number-natural s numbers i + 1);
+        kind = t .code;
+        bbox = grown (ownBox (sym (lent-kind t k (p .shape .of-code)) i) (sym (lent-form t k (p .shape .of-code)) i) (t .box) (t .xy) (t .zs) (t .ms)) (heldBox s);
+      }
+
+  number-bits : ofZ w32 (s .number) ≡ natAbs (s .number)
+  number-bits = ap (ofZ w32) (numbers .number-is)
+
+  words-bits : ofZ w32 (s .words .0) ≡ natAbs (s .words .0)
+  words-bits = ap (ofZ w32) (numbers .words-is)
+
+  content-bits : ofZ w32 (w .0) ≡ shapeWords (lentShape t)
+  content-bits = ap (λ (v : Words). ofZ w32 (v .0)) (p .shape .words-are)
+
+  pub record-of : recordBytes k (ofZ w32 (s .number)) (shapeBy k (t .box) (t .counts) (t .xy) (t .zs) (t .ms)) ≡ recordOf s t
+  record-of = λ i. recordBytes (sym (lent-kind t k (p .shape .of-code)) i) (number-bits i) (sym shape i)
+
+  pub entry-of : twoBig (ofZ w32 (s .words .0)) (ofZ w32 (w .0)) ≡ entryOf s t
+  entry-of = λ i. twoBig (words-bits i) (content-bits i)
+
+-- ---- a refusal, whole
+
+pub adds-refused : (s : State) (t : Lent) (out : List ℕ) (start : ℕ) (entry : List ℕ) (a : AddAnswer) → AllRefused s t (length out) start (length entry) a → Adds s t out start entry (record { answer = a; state = s }) out entry
+adds-refused s t out start entry a r =
+    record {
+      says = r .says;
+      state-is = refused-keeps a s (nextState s t) (r .refused);
+      out-is = refused-keeps a out (sets out start (recordOf s t)) (r .refused);
+      entry-is = refused-keeps a entry (sets entry 0 (entryOf s t)) (r .refused);
+    }

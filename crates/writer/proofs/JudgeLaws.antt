@@ -1,0 +1,138 @@
+-- Laws of the judge of state and kind: which test each of its answers is about.
+use mathlib.Core.Path.{_≡_, refl, sym, ap, _∙_}
+use mathlib.Core.Bool.{Bool, true, false, cond, _||_}
+use mathlib.Core.Option.{Option, none, some}
+use Prim.Native.Nat.{ℕ, _^_, _<_}
+use native.Mathlib.Omega.{arith}
+use lib.Dec.{eqb}
+use lib.IntN.{ℤ, pos, negsuc}
+use lib.Signed.{mag}
+use mir.Syntax.{w32}
+use mir.Val.{SFits, ofZ, toZ}
+use mir.ValLaws.{toZ-ofZ}
+use borrow.Author.Tests.{eq-eqb, ne-eqb}
+use Rattle.format.specs.declared.kinds.Kind.{Kind}
+use Rattle.format.specs.declared.lengths.Formula.{Formula}
+use Rattle.format.specs.Kinds.{known}
+use Rattle.format.specs.Lengths.{Form, nothing, onePoint, parts, formOf, formula}
+use Rattle.format.specs.Units.{sameInt}
+use Rattle.format.proofs.UnitLaws.{same-yes, same-no}
+use Rattle.writer.specs.declared.State.{State}
+use Rattle.writer.specs.declared.AddAnswer.the-variants.{Size, Unknown, NotTaken, Mismatch}
+use Rattle.writer.specs.declared.states.Looked.the-variants as LookedIs
+use Rattle.writer.specs.Judging.{byForm, byKind, lookUp, formBy, OfCode, KindFine, KindRefused}
+use Rattle.writer.specs.State.{isZero, kindAt, formAt, isSome, stateFine}
+use Rattle.writer.proofs.KindLaws.{code-is, known-is, isTaken, taken-is, looked-kind}
+
+-- ---- numbers by their bits
+
+pub zero-yes : (z : ℤ) → mag z < 2 ^ 31 → ofZ w32 z ≡ 0 → isZero z ≡ true
+zero-yes (pos n) f e = eq-eqb n 0 e
+zero-yes (negsuc n) f e = absurd (omega arith)
+
+pub zero-no : (z : ℤ) → (ofZ w32 z ≡ 0 → ⊥) → isZero z ≡ false
+zero-no (pos n) e = ne-eqb n 0 e
+zero-no (negsuc n) e = refl
+
+pub bits-same : (x y : ℤ) → SFits w32 x → SFits w32 y → ofZ w32 x ≡ ofZ w32 y → sameInt x y ≡ true
+bits-same x y f g e = same-yes x y (sym (toZ-ofZ w32 x f) ∙ (ap (toZ w32) e ∙ toZ-ofZ w32 y g))
+
+pub bits-differ : (x y : ℤ) → (ofZ w32 x ≡ ofZ w32 y → ⊥) → sameInt x y ≡ false
+bits-differ x y e = same-no x y (λ p. e (ap (ofZ w32) p))
+
+-- ---- the kind's form: parts or one point, where the code is not 0
+
+looked-form : (k : Kind) (f : Formula) (o : Option Form) → byForm k o ≡ LookedIs.Taken k f → (form : Form) × (o ≡ some form) × (f ≡ formula form (k .z) (k .m))
+looked-form k f none e = absurd (let z : _≡_ {A = ℕ} 0 1 = cc in omega arith)
+looked-form k f (some form) e = (form, refl, cc)
+
+form-by : (a z p : Bool) (form : Form) → z ≡ false → cond a none (cond z (some nothing) (cond p (some parts) (some onePoint))) ≡ some form → form ≡ cond p parts onePoint
+form-by true z p form h e = absurd (let q : _≡_ {A = ℕ} 0 1 = cc in omega arith)
+form-by false true p form h e = absurd (let q : _≡_ {A = ℕ} 0 1 = cc in omega arith)
+form-by false false true form h e = cc
+form-by false false false form h e = cc
+
+form-of : (k : Kind) (form : Form) → (k .code ≡ 0 → ⊥) → formOf k ≡ some form → form ≡ formBy k
+unfolding formOf
+form-of k form h e =
+    form-by (eqb (k .code) 8 || eqb (k .code) 18 || eqb (k .code) 28 || eqb (k .code) 31) (eqb (k .code) 0) (k .parts) form (ne-eqb (k .code) 0 h) e
+
+module _ (code : ℤ) where
+  none-known : lookUp code ≡ LookedIs.Unknown → known code ≡ false
+  unfolding lookUp
+  none-known e = known-is code ∙ go (kindAt code) e
+    where
+      by : (k : Kind) (o : Option Form) → byForm k o ≡ LookedIs.Unknown → true ≡ false
+      by k none q = cc
+      by k (some form) q = cc
+
+      go : (o : Option Kind) → byKind o ≡ LookedIs.Unknown → isSome o ≡ false
+      go none q = refl
+      go (some k) q = by k (formOf k) q
+
+  not-known : lookUp code ≡ LookedIs.NotTaken → known code ≡ true
+  unfolding lookUp
+  not-known e = known-is code ∙ go (kindAt code) e
+    where
+      go : (o : Option Kind) → byKind o ≡ LookedIs.NotTaken → isSome o ≡ true
+      go none q = cc
+      go (some k) q = refl
+
+  untaken : lookUp code ≡ LookedIs.NotTaken → isSome (formAt code) ≡ false
+  untaken e = taken-is code ∙ ap isTaken e
+
+  module _ (k : Kind) (f : Formula) (e : lookUp code ≡ LookedIs.Taken k f) where
+    here : kindAt code ≡ some k
+    here = looked-kind code k f e
+
+    is-known : known code ≡ true
+    is-known = known-is code ∙ ap isSome here
+
+    is-taken : isSome (formAt code) ≡ true
+    is-taken = taken-is code ∙ ap isTaken e
+
+    is-zero : isZero code ≡ eqb (k .code) 0
+    is-zero = ap isZero (code-is code k here)
+
+    formed : (form : Form) × (formOf k ≡ some form) × (f ≡ formula form (k .z) (k .m))
+    unfolding lookUp
+    formed = looked-form k f (formOf k) (sym (ap byKind here) ∙ e)
+
+    form-at : formAt code ≡ formOf k
+    form-at = rw here
+
+    of-code : (k .code ≡ 0 → ⊥) → OfCode code k
+    of-code h = record { kind-is = here; form-is = form-at ∙ (formed .1 ∙ ap some (form-of k (formed .0) h (formed .1))) }
+
+    formula-is : (k .code ≡ 0 → ⊥) → f ≡ formula (formBy k) (k .z) (k .m)
+    formula-is h = formed .2 ∙ ap (λ (x : Form). formula x (k .z) (k .m)) (form-of k (formed .0) h (formed .1))
+
+-- ---- the judge's answers
+
+module _ (s : State) (code : ℤ) where
+  pub no-state : stateFine s ≡ false → KindRefused s code Size
+  no-state e = record { refused = refl; says = λ more x. rw e }
+
+  module _ (fine : stateFine s ≡ true) where
+    pub no-kind : lookUp code ≡ LookedIs.Unknown → KindRefused s code (Unknown code)
+    no-kind e = record { refused = refl; says = λ more x. rw (fine, none-known code e) }
+
+    pub no-taken : lookUp code ≡ LookedIs.NotTaken → KindRefused s code (NotTaken code)
+    no-taken e = record { refused = refl; says = λ more x. rw (fine, not-known code e, untaken code e) }
+
+    module _ (k : Kind) (f : Formula) (e : lookUp code ≡ LookedIs.Taken k f) where
+      pub no-null : k .code ≡ 0 → KindRefused s code (NotTaken code)
+      no-null h = record { refused = refl; says = λ more x. rw (fine, is-known code k f e, is-taken code k f e, is-zero code k f e, eq-eqb (k .code) 0 h) }
+
+      module _ (h : k .code ≡ 0 → ⊥) where
+        pub no-match : isZero (s .kind) ≡ false → sameInt (s .kind) code ≡ false → KindRefused s code (Mismatch (s .kind) code)
+        no-match p q = record { refused = refl; says = λ more x. rw (fine, is-known code k f e, is-taken code k f e, is-zero code k f e, ne-eqb (k .code) 0 h, p, q) }
+
+        pub kind-fine : isZero (s .kind) || sameInt (s .kind) code ≡ true → KindFine s code k f
+        kind-fine p =
+            record {
+              fine = fine;
+              passes = λ more x. rw (fine, is-known code k f e, is-taken code k f e, is-zero code k f e, ne-eqb (k .code) 0 h, p);
+              of-code = of-code code k f e h;
+              formula-is = formula-is code k f e h;
+            }

@@ -1,0 +1,14 @@
+-- Laws of the writer, and that its contracts determine what comes back.
+mod AddLaws
+mod BodyLaws
+mod BoxLaws
+pub mod Determined
+mod FinishLaws
+mod JudgeLaws
+pub mod KindLaws
+mod LengthLaws
+mod PassLaws
+pub mod ShapeLaws
+pub mod StateLaws
+pub mod StoreLaws
+mod TableLaws

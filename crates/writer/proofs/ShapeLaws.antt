@@ -1,0 +1,114 @@
+-- Laws of the shape that is lent, by the kind that was found: its form, its words, and the tests of it.
+use mathlib.Core.Path.{_≡_, refl, ap, subst}
+use mathlib.Core.Bool.{Bool, true, false, cond, _&&_, _||_}
+use mathlib.Core.List.{List, [], _∷_}
+use Prim.Native.Nat.{ℕ, _*_, _^_}
+use native.Mathlib.Omega.{arith}
+use lib.Dec.{T, eqb, ltb}
+use lib.Ieee.{Float}
+use lib.ListN.{length}
+use borrow.Author.Tests.{eqb-true}
+use Rattle.format.specs.declared.kinds.Kind.{Kind}
+use Rattle.format.specs.Encoding.{shapeWords}
+use Rattle.format.specs.Lengths.{onePoint, parts, formula, contentWords}
+use Rattle.format.specs.Shapes.{there}
+use Rattle.header.specs.declared.bbox.BBoxZ.{BBoxZ}
+use Rattle.layouts.specs.Answers.{countsHeld}
+use Rattle.layouts.specs.Tables.{sum, pointsOf, measureOf, partsOf}
+use Rattle.layouts.proofs.TableLaws.{both, length-points, split-length, split-whole}
+use Rattle.writer.specs.Adding.{Lent, kindOr, formOr, lentKind, lentForm, valueOf, pointShape, lentShape, lentAgree}
+use Rattle.writer.specs.Judging.{OfCode, formBy, pointsBy, agreeBy, shapeBy, wordsBy, formulaWords}
+
+-- ---- what is lent, by its kind
+
+module _ (t : Lent) (k : Kind) (o : OfCode (t .code) k) where
+  pub lent-kind : lentKind t ≡ k
+  lent-kind = ap kindOr (o .kind-is)
+
+  pub lent-form : lentForm t ≡ formBy k
+  lent-form = ap formOr (o .form-is)
+
+  pub agree-is : lentAgree t ≡ agreeBy k (t .counts) (t .xy) (t .zs) (t .ms)
+  agree-is = go (k .parts) refl
+    where
+      go : (p : Bool) → k .parts ≡ p → lentAgree t ≡ agreeBy k (t .counts) (t .xy) (t .zs) (t .ms)
+      go true e = rw (o .form-is, e, o .kind-is)
+      go false e = rw (o .form-is, e, o .kind-is)
+
+  pub shape-is : lentShape t ≡ shapeBy k (t .box) (t .counts) (t .xy) (t .zs) (t .ms)
+  unfolding lentShape
+  shape-is = go (k .parts) refl
+    where
+      go : (p : Bool) → k .parts ≡ p → lentShape t ≡ shapeBy k (t .box) (t .counts) (t .xy) (t .zs) (t .ms)
+      go true e = rw (o .form-is, e, o .kind-is)
+      go false e = rw (o .form-is, e, o .kind-is)
+
+-- ---- tables that agree
+
+pub record Agreed (k : Kind) (counts : List ℕ) (xy zs ms : List Float) : Type 0 where
+  pub no-parts : k .parts ≡ false → counts ≡ []
+  pub xy-has : length xy ≡ 2 * pointsBy k counts
+  pub zs-has : length zs ≡ cond (k .z) (pointsBy k counts) 0
+  pub ms-has : length ms ≡ cond (k .m) (pointsBy k counts) 0
+
+pub empty : {A : Type 0} (l : List A) → length l ≡ 0 → l ≡ []
+empty [] e = refl
+empty (x ∷ l) e = absurd (omega arith)
+
+none-by : (p : Bool) (counts : List ℕ) → p || eqb (length counts) 0 ≡ true → p ≡ false → counts ≡ []
+none-by true counts h e = absurd (subst T e tt)
+none-by false counts h e = empty counts (eqb-true (length counts) 0 h)
+
+pub agreed : (k : Kind) (counts : List ℕ) (xy zs ms : List Float) → agreeBy k counts xy zs ms ≡ true → Agreed k counts xy zs ms
+agreed k counts xy zs ms e =
+    let p = both _ _ e in
+    let q = both _ _ (p .0) in
+    let r = both _ _ (q .0) in
+    record {
+      no-parts = none-by (k .parts) counts (r .0);
+      xy-has = eqb-true (length xy) (2 * pointsBy k counts) (r .1);
+      zs-has = eqb-true (length zs) (cond (k .z) (pointsBy k counts) 0) (q .1);
+      ms-has = eqb-true (length ms) (cond (k .m) (pointsBy k counts) 0) (p .1);
+    }
+
+-- ---- the words of the shape
+
+there-measure : (flag : Bool) (low high : Float) (vs : List Float) → there (measureOf flag low high vs) ≡ flag
+there-measure true low high vs = refl
+there-measure false low high vs = refl
+
+there-value : (flag : Bool) (vs : List Float) → length vs ≡ cond flag 1 0 → there (valueOf flag vs) ≡ flag
+there-value true [] e = absurd (omega arith)
+there-value true (x ∷ vs) e = refl
+there-value false vs e = refl
+
+parts-words : (z m : Bool) (b : BBoxZ) (counts : List ℕ) (xy zs ms : List Float) → length xy ≡ 2 * sum counts → shapeWords (Rattle.format.specs.Shapes.parted (partsOf z m b counts xy zs ms)) ≡ contentWords parts z m (length counts) (sum counts)
+unfolding shapeWords partsOf
+parts-words z m b counts xy zs ms e =
+    let n : sum counts ≡ length (pointsOf xy) = omega (arith, length-points xy) in
+    rw (there-measure z (b .zmin) (b .zmax) zs, there-measure m (b .mmin) (b .mmax) ms, split-length counts (pointsOf xy), split-whole counts (pointsOf xy) n, n)
+
+point-words : (k : Kind) (xy zs ms : List Float) → length xy ≡ 2 → length zs ≡ cond (k .z) 1 0 → length ms ≡ cond (k .m) 1 0 → shapeWords (pointShape k xy zs ms) ≡ contentWords onePoint (k .z) (k .m) 0 1
+unfolding shapeWords
+point-words k [] zs ms e f g = absurd (omega arith)
+point-words k (x ∷ []) zs ms e f g = absurd (omega arith)
+point-words k (x ∷ y ∷ xy) zs ms e f g = rw (there-value (k .z) zs f, there-value (k .m) ms g)
+
+module _ (k : Kind) (b : BBoxZ) (counts : List ℕ) (xy zs ms : List Float) (a : Agreed k counts xy zs ms) where
+  pub words-are : shapeWords (shapeBy k b counts xy zs ms) ≡ wordsBy k counts
+  words-are = go (k .parts) refl a
+    where
+      go : (p : Bool) → k .parts ≡ p → Agreed k counts xy zs ms → shapeWords (shapeBy k b counts xy zs ms) ≡ wordsBy k counts
+      go true e a = rw e (parts-words (k .z) (k .m) b counts xy zs ms (rw e at (a .xy-has)))
+      go false e a = rw (e, a .no-parts e) (point-words k xy zs ms (rw e at (a .xy-has)) (rw e at (a .zs-has)) (rw e at (a .ms-has)))
+
+  pub counts-held : ltb (length counts) (2 ^ 31) && ltb (pointsBy k counts) (2 ^ 31) ≡ countsHeld counts
+  counts-held = go (k .parts) refl
+    where
+      go : (p : Bool) → k .parts ≡ p → ltb (length counts) (2 ^ 31) && ltb (pointsBy k counts) (2 ^ 31) ≡ countsHeld counts
+      go true e = rw e
+      go false e = rw (e, a .no-parts e)
+
+pub formula-words : (k : Kind) (counts : List ℕ) → formulaWords (formula (formBy k) (k .z) (k .m)) (length counts) (pointsBy k counts) ≡ wordsBy k counts
+unfolding contentWords
+formula-words k counts = refl

@@ -1,0 +1,86 @@
+-- Laws of what is stored: one field after the other from the front on, and the tail of an output that was lent on.
+use mathlib.Core.Path.{_≡_, refl, sym, ap, _∙_}
+use mathlib.Core.List.{List, [], _∷_, _++_, append-nil}
+use Prim.Native.Nat.{ℕ, zero, suc, _+_, _*_, _-_}
+use native.Mathlib.Nat.{le-of-eq, zero-add}
+use native.Mathlib.Omega.{arith}
+use lib.Ieee.{Float}
+use lib.IntN.{ℤ}
+use lib.ListN.{length, take, drop, set, length-append, length-drop}
+use lib.Seq.{sets, take-all, drop-length}
+use mir.Syntax.{w32}
+use mir.Val.{ofZ}
+use borrow.Rule.Slice.PartMut.{midOf, putMid}
+use Rattle.format.specs.Encoding.{twoBig}
+use Rattle.format.specs.Numbers.{big, little, i32Be, f64sLe}
+use Rattle.format.proofs.LayoutLaws.{sets-append}
+use Rattle.format.proofs.NumberLaws.{length-big, length-little}
+use Rattle.layouts.proofs.TableLaws.{length-f64sLe}
+
+-- ---- a tail
+
+sets-nil : (vs : List ℕ) (i : ℕ) → sets [] i vs ≡ []
+sets-nil [] i = refl
+sets-nil (v ∷ vs) i = sets-nil vs (suc i)
+
+sets-cons : (vs l : List ℕ) (x i : ℕ) → sets (x ∷ l) (suc i) vs ≡ x ∷ sets l i vs
+sets-cons [] l x i = refl
+sets-cons (v ∷ vs) l x i = sets-cons vs (set l i v) x (suc i)
+
+sets-tail : (a : ℕ) (xs vs : List ℕ) → take a xs ++ sets (drop a xs) 0 vs ≡ sets xs a vs
+sets-tail zero xs vs = refl
+sets-tail (suc a) [] vs = sets-nil vs 0 ∙ sym (sets-nil vs (suc a))
+sets-tail (suc a) (x ∷ xs) vs = ap (_∷_ x) (sets-tail a xs vs) ∙ sym (sets-cons vs xs x a)
+
+tail-mid : (a : ℕ) (xs : List ℕ) → midOf a (length xs - a) xs ≡ drop a xs
+tail-mid a xs = take-all (length xs - a) (drop a xs) (le-of-eq (length-drop a xs))
+
+pub tail-length : (a : ℕ) (xs : List ℕ) → length (midOf a (length xs - a) xs) ≡ length xs - a
+tail-length a xs = ap length (tail-mid a xs) ∙ length-drop a xs
+
+put-tail : (a : ℕ) (xs ys : List ℕ) → putMid a (length xs - a) xs ys ≡ take a xs ++ ys
+put-tail a xs ys =
+    ap (λ (l : List ℕ). take a xs ++ (ys ++ l)) (rw (← length-drop a xs, drop-length (drop a xs)))
+    ∙ ap (λ (l : List ℕ). take a xs ++ l) (append-nil ys)
+
+-- what was stored at the front of the tail from a on stands in the whole at a
+pub tail-stored : (a : ℕ) (xs ys vs : List ℕ) → ys ≡ sets (midOf a (length xs - a) xs) 0 vs → putMid a (length xs - a) xs ys ≡ sets xs a vs
+tail-stored a xs ys vs h =
+    put-tail a xs ys
+    ∙ (ap (λ (l : List ℕ). take a xs ++ l) (h ∙ ap (λ (l : List ℕ). sets l 0 vs) (tail-mid a xs))
+    ∙ sets-tail a xs vs)
+
+-- ---- fields in turn
+
+length-twoBig : (a b : ℕ) → length (twoBig a b) ≡ 8
+unfolding twoBig
+length-twoBig a b = simp (length-append, length-big)
+
+pub two-stored : (out l m : List ℕ) (a b : ℤ) → l ≡ sets out 0 (i32Be a) → m ≡ sets l 4 (i32Be b) → m ≡ sets out 0 (twoBig (ofZ w32 a) (ofZ w32 b))
+unfolding twoBig i32Be
+two-stored out l m a b e f =
+    f
+    ∙ (ap (λ (x : List ℕ). sets x 4 (big (ofZ w32 b))) e
+    ∙ (ap (λ (n : ℕ). sets (sets out 0 (big (ofZ w32 a))) n (big (ofZ w32 b))) (sym (zero-add (length (big (ofZ w32 a))) ∙ length-big (ofZ w32 a)))
+    ∙ sym (sets-append (big (ofZ w32 a)) (big (ofZ w32 b)) out 0)))
+
+pub point-stored : (out l m r : List ℕ) (xy zs ms : List Float) → length xy ≡ 2 → l ≡ sets out 0 (f64sLe xy) → m ≡ sets l 16 (f64sLe zs) → r ≡ sets m (16 + 8 * length zs) (f64sLe ms) → r ≡ sets out 0 (f64sLe xy ++ (f64sLe zs ++ f64sLe ms))
+point-stored out l m r xy zs ms h e f g =
+    let x = f64sLe xy in
+    let z = f64sLe zs in
+    let p : 16 ≡ 0 + length x = omega (arith, length-f64sLe xy) in
+    let q : 16 + 8 * length zs ≡ 16 + length z = omega (arith, length-f64sLe zs) in
+    g
+    ∙ (rw (f, e, q) (sym (sets-append z (f64sLe ms) (sets out 0 x) 16))
+    ∙ (ap (λ (n : ℕ). sets (sets out 0 x) n (z ++ f64sLe ms)) p
+    ∙ sym (sets-append x (z ++ f64sLe ms) out 0)))
+
+pub record-stored : (out l m r : List ℕ) (a b c : ℕ) (body : List ℕ) → l ≡ sets out 0 (twoBig a b) → m ≡ sets l 8 (little c) → r ≡ sets m 12 body → r ≡ sets out 0 (twoBig a b ++ (little c ++ body))
+record-stored out l m r a b c body e f g =
+    let h = twoBig a b in
+    let p : 8 ≡ 0 + length h = omega (arith, length-twoBig a b) in
+    let q : 12 ≡ 8 + length (little c) = omega (arith, length-little c) in
+    g
+    ∙ (rw (f, e) (ap (λ (n : ℕ). sets (sets (sets out 0 h) 8 (little c)) n body) q ∙ sym (sets-append (little c) body (sets out 0 h) 8))
+    ∙ (ap (λ (n : ℕ). sets (sets out 0 h) n (little c ++ body)) p
+    ∙ sym (sets-append h (little c ++ body) out 0)))

@@ -1,0 +1,99 @@
+-- `judge::judge_kind` meets its contract: one law for each return.
+use mathlib.Core.Path.{_≡_, sym, ap, _∙_}
+use mathlib.Core.Bool.{Bool, true, _||_}
+use mir.Syntax.{w32}
+use mir.Val.{SFits}
+use mir.ValLaws.{toZ-ofZ}
+use borrow.Author.Tests.{not-true, not-false}
+use borrow.Author.Needs.{needs}
+use Rattle.format.specs.Units.{sameInt}
+use Rattle.writer.specs.Judging.{lookUp}
+use Rattle.writer.specs.State.{stateFine}
+use Rattle.writer.proofs.JudgeLaws.{zero-yes, zero-no, bits-same, bits-differ, no-state, no-kind, no-taken, no-null, no-match, kind-fine}
+use Rattle.writer.proofs.judge.judge_kind.Statement.{statement}
+use Rattle.writer.proofs.judge.judge_kind.Tie as tie
+
+kind-fits : (c : tie.Start) → SFits w32 (c .args .state .kind)
+kind-fits c = search needs
+
+fine-is : (c : tie.Else1) → stateFine (c .before .before .args .state) ≡ true
+fine-is c = sym (c .before .state-fine .ensures) ∙ not-false _ (c .if1 .left)
+
+looked : (c : tie.After-look-up) → lookUp (c .before .before .before .args .code) ≡ c .look-up .result
+looked c = ap lookUp (sym (toZ-ofZ w32 _ (c .before .before .before .fits .code))) ∙ sym (c .look-up .ensures)
+
+state-fine-requires : tie.Need-state-fine-requires
+state-fine-requires c κs = search needs
+
+returns : tie.Need-returns
+returns c = no-state _ _ (sym (c .before .state-fine .ensures) ∙ not-true _ (c .if1 .taken))
+
+look-up-requires : tie.Need-look-up-requires
+look-up-requires c κs = search needs
+
+enum-told : tie.Need-enum-told
+enum-told c = search needs
+
+enum-told-2 : tie.Need-enum-told-2
+enum-told-2 c = search needs
+
+enum-known-k : tie.Need-enum-known-k
+enum-known-k c = search needs
+
+returns-2 : tie.Need-returns-2
+returns-2 c =
+    let k = c .before .before .before in
+    let l = k .before .before in
+    let a = l .before .before .before in
+    rw (toZ-ofZ w32 _ (a .fits .code)) (no-null _ _ (fine-is (l .before)) _ _ (looked l ∙ k .k .given .1) (c .if2 .taken))
+
+returns-3 : tie.Need-returns-3
+returns-3 c =
+    let k = c .before .before .before .before .before .before in
+    let l = k .before .before in
+    let a = l .before .before .before in
+    rw (toZ-ofZ w32 _ (a .fits .code), toZ-ofZ w32 _ (kind-fits a))
+    (no-match _ _ (fine-is (l .before)) _ _ (looked l ∙ k .k .given .1) (c .before .before .before .if2 .left) (zero-no (a .args .state .kind) (c .before .if3 .taken)) (bits-differ (a .args .state .kind) (a .args .code) (c .if4 .taken)))
+
+returns-4 : tie.Need-returns-4
+returns-4 c =
+    let l = c .before .before in
+    rw (toZ-ofZ w32 _ (l .before .before .before .fits .code)) (no-kind _ _ (fine-is (l .before)) (looked l ∙ c .enum-told .given .1))
+
+returns-5 : tie.Need-returns-5
+returns-5 c =
+    let l = c .before .before in
+    rw (toZ-ofZ w32 _ (l .before .before .before .fits .code)) (no-taken _ _ (fine-is (l .before)) (looked l ∙ c .enum-told2 .given .1))
+
+returns-6 : tie.Need-returns-6
+returns-6 c =
+    let k = c .before .before .before .before .before .before in
+    let l = k .before .before in
+    let a = l .before .before .before in
+    kind-fine _ _ (fine-is (l .before)) _ _ (looked l ∙ k .k .given .1) (c .before .before .before .if2 .left)
+    (ap (λ (b : Bool). b || sameInt (a .args .state .kind) (a .args .code)) (zero-no (a .args .state .kind) (c .before .if3 .taken)) ∙ bits-same _ _ (kind-fits a) (a .fits .code) (c .if4 .left))
+
+returns-7 : tie.Need-returns-7
+returns-7 c =
+    let k = c .before .before .before .before .before in
+    let l = k .before .before in
+    let a = l .before .before .before in
+    kind-fine _ _ (fine-is (l .before)) _ _ (looked l ∙ k .k .given .1) (c .before .before .if2 .left)
+    (ap (λ (b : Bool). b || sameInt (a .args .state .kind) (a .args .code)) (zero-yes (a .args .state .kind) (kind-fits a .sfits) (c .if3 .left)))
+
+pub judge-kind-spec : {M : Type 1} → statement M
+judge-kind-spec =
+    tie.close
+    (tie.spec
+    state-fine-requires
+    returns
+    look-up-requires
+    enum-told
+    enum-told-2
+    enum-known-k
+    returns-2
+    returns-3
+    returns-4
+    returns-5
+    returns-6
+    returns-7)

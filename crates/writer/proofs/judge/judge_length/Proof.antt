@@ -1,0 +1,91 @@
+-- `judge::judge_length` meets its contract: the formula's words decide.
+use mathlib.Core.Path.{_≡_, sym, ap, _∙_}
+use Prim.Native.Nat.{ℕ, _+_, _^_, _≤_, _<_}
+use native.Mathlib.Omega.{arith}
+use mir.Val.{toZ, ofZ}
+use mir.ValLaws.{toZ-pos}
+use mir.Syntax.{w32}
+use borrow.Author.Needs.{needs}
+use Rattle.format.specs.declared.units.Words.{Words}
+use Rattle.writer.specs.Judging.{naturalOf, wordsOf, formulaWords}
+use Rattle.writer.proofs.LengthLaws.{counted-long, counted-held, long-parts, long-points, long-words, held-words}
+use Rattle.writer.proofs.judge.judge_length.Statement.{statement}
+use Rattle.writer.proofs.judge.judge_length.Tie as tie
+
+held : (c : tie.After-content) → let a = c .before .before .before .before .before .args in (formulaWords (a .f) (a .p) (a .n) < 2 ^ 31) × (c .content .given .0 .0 ≡ wordsOf (formulaWords (a .f) (a .p) (a .n)))
+held c = let a = c .before .before .before .before .before .args in counted-held (a .f) (a .p) (a .n) _ (sym (c .before .before .content-words .ensures) ∙ c .content .given .1)
+
+natural-is : (c : tie.After-natural) → let a = c .before .before .before .before .before .before .before .before .args in c .natural .result ≡ formulaWords (a .f) (a .p) (a .n)
+natural-is c =
+    let h = held (c .before .before .before) in
+    c .natural .ensures .0
+    ∙ (ap (λ (w : Words). naturalOf (toZ w32 (ofZ w32 (w .0)))) (h .1)
+    ∙ ap naturalOf (toZ-pos w32 _ (h .0)))
+
+after-is : (c : tie.After-words-after) → let a = c .before .before .before .before .before .before .before .before .before .args in c .words-after .result ≡ a .words + (4 + formulaWords (a .f) (a .p) (a .n))
+after-is c =
+    let a = c .before .before .before .before .before .before .before .before .before .args in
+    c .words-after .ensures ∙ ap (λ (n : ℕ). a .words + (4 + n)) (natural-is (c .before))
+
+returns : tie.Need-returns
+returns c = let a = c .before .args in long-parts (a .f) (a .p) (a .n) (a .words) (omega arith)
+
+returns-2 : tie.Need-returns-2
+returns-2 c = let a = c .before .before .args in long-points (a .f) (a .p) (a .n) (a .words) (omega arith) (omega arith)
+
+cast-content-words : tie.Need-cast-content-words
+cast-content-words c = search needs
+
+cast-content-words-2 : tie.Need-cast-content-words-2
+cast-content-words-2 c = search needs
+
+content-words-requires : tie.Need-content-words-requires
+content-words-requires c κs = search needs
+
+enum-told : tie.Need-enum-told
+enum-told c = search needs
+
+enum-known-content : tie.Need-enum-known-content
+enum-known-content c = search needs
+
+natural-requires : tie.Need-natural-requires
+natural-requires c κs = search needs
+
+words-after-requires : tie.Need-words-after-requires
+words-after-requires c κs = search needs
+
+returns-3 : tie.Need-returns-3
+returns-3 c =
+    let a = c .before .before .before .before .before .before .before .before .before .before .args in
+    let e : c .before .words-after .result ≡ a .words + (4 + formulaWords (a .f) (a .p) (a .n)) = after-is (c .before) in
+    long-words (a .f) (a .p) (a .n) (a .words) (omega arith) (omega arith) (omega arith)
+
+returns-4 : tie.Need-returns-4
+returns-4 c =
+    let m = c .before .before in
+    let a = m .before .before .before .args in
+    let h : 2 ^ 31 ≤ formulaWords (a .f) (a .p) (a .n) = counted-long (a .f) (a .p) (a .n) (sym (m .content-words .ensures) ∙ c .enum-told .given .1) in
+    long-words (a .f) (a .p) (a .n) (a .words) (omega arith) (omega arith) (omega arith)
+
+returns-5 : tie.Need-returns-5
+returns-5 c =
+    let a = c .before .before .before .before .before .before .before .before .before .before .args in
+    let e : c .before .words-after .result ≡ a .words + (4 + formulaWords (a .f) (a .p) (a .n)) = after-is (c .before) in
+    held-words (a .f) (a .p) (a .n) (a .words) (omega arith) (omega arith) _ (held (c .before .before .before .before .before) .1) (omega arith)
+
+pub judge-length-spec : {M : Type 1} → statement M
+judge-length-spec =
+    tie.close
+    (tie.spec
+    returns
+    returns-2
+    cast-content-words
+    cast-content-words-2
+    content-words-requires
+    enum-told
+    enum-known-content
+    natural-requires
+    words-after-requires
+    returns-3
+    returns-4
+    returns-5)

@@ -1,0 +1,79 @@
+-- `judge::summed` meets its contract: the total so far and the sum of what is left are the sum of all.
+use mathlib.Core.Path.{_≡_, sym, _∙_}
+use Prim.Native.Nat.{_+_, _-_, _≤_, _<_}
+use native.Mathlib.Omega.{arith}
+use lib.ListN.{length, drop}
+use borrow.Author.Needs.{needs}
+use Rattle.layouts.specs.Tables.{sum}
+use Rattle.writer.proofs.LengthLaws.{sum-more, sum-end, over, within}
+use Rattle.writer.proofs.judge.summed.Statement.{statement}
+use Rattle.writer.proofs.judge.summed.Tie as tie
+
+abbrev Inv-loop : tie.InvT-loop
+Inv-loop counts most total₀ i₀ total i = (i ≤ length counts) × (total ≤ most) × (total + sum (drop i counts) ≡ sum counts)
+
+abbrev μ-loop : tie.MeasureT-loop
+μ-loop counts most total₀ i₀ total i = length counts - i
+
+loop-holds : tie.Need-loop-holds Inv-loop μ-loop
+loop-holds c = (omega arith, omega arith, omega arith)
+
+mul-total : tie.Need-mul-total Inv-loop μ-loop
+mul-total c = search needs
+
+shared-slice-read-total : tie.Need-shared-slice-read-total Inv-loop μ-loop
+shared-slice-read-total c = omega arith
+
+cast-total : tie.Need-cast-total Inv-loop μ-loop
+cast-total c = omega (arith, c .shared-slice-known .given (c .before .before .loop .i))
+
+add-total : tie.Need-add-total Inv-loop μ-loop
+add-total c = omega (arith, c .shared-slice-known .given (c .before .before .loop .i))
+
+add-result : tie.Need-add-result Inv-loop μ-loop
+add-result c = omega arith
+
+returns : tie.Need-returns Inv-loop μ-loop
+returns c =
+    let l = c .before .before .before in
+    let n = l .before .args .counts .now in
+    let h : l .before .args .most < sum n = omega (arith, sum-more n (l .loop .i) (c .before .before .loop-test .taken), l .loop .inv .2) in
+    over (sum n) (l .before .args .most) h
+
+add-i : tie.Need-add-i Inv-loop μ-loop
+add-i c = omega arith
+
+loop-less : tie.Need-loop-less Inv-loop μ-loop
+loop-less c = omega arith
+
+loop-again : tie.Need-loop-again Inv-loop μ-loop
+loop-again c =
+    let l = c .before .before .before in
+    let n = l .before .args .counts .now in
+    (omega arith, c .if1 .left, omega (arith, sum-more n (l .loop .i) (c .before .before .loop-test .taken), l .loop .inv .2))
+
+returns-2 : tie.Need-returns-2 Inv-loop μ-loop
+returns-2 c =
+    let l = c .before in
+    let n = l .before .args .counts .now in
+    let e : sum n ≡ l .loop .total = omega (arith, sum-end n (l .loop .i) (c .loop-test .left), l .loop .inv .2) in
+    let h : sum n ≤ l .before .args .most = omega arith in
+    sym e ∙ within (sum n) (l .before .args .most) h
+
+pub summed-spec : {M : Type 1} → statement M
+summed-spec =
+    tie.close
+    (tie.spec
+    Inv-loop
+    μ-loop
+    loop-holds
+    mul-total
+    shared-slice-read-total
+    cast-total
+    add-total
+    add-result
+    returns
+    add-i
+    loop-less
+    loop-again
+    returns-2)

@@ -1,0 +1,32 @@
+-- `record::put_two` meets its contract: the second number goes in behind the first.
+use mathlib.Core.Path.{ap, _∙_}
+use lib.IntN.{ℤ}
+use lib.Seq.{sets}
+use mir.Syntax.{w32}
+use mir.ValLaws.{toZ-ofZ}
+use borrow.Author.Needs.{needs}
+use Rattle.format.specs.Numbers.{i32Be}
+use Rattle.writer.proofs.StoreLaws.{two-stored}
+use Rattle.writer.proofs.record.put_two.Statement.{statement}
+use Rattle.writer.proofs.record.put_two.Tie as tie
+
+put-be-i32-requires : tie.Need-put-be-i32-requires
+put-be-i32-requires c κs = search needs
+
+put-be-i32-requires-2 : tie.Need-put-be-i32-requires-2
+put-be-i32-requires-2 c κs = search needs
+
+same-length : tie.Need-same-length
+same-length c = search needs
+
+returns : tie.Need-returns
+returns c =
+    let q = c .before .before in
+    let p = q .before .before .before .before in
+    let s = p .before .before .before in
+    two-stored (s .args .out .now) (p .put-be-i32 .last .0) _ (s .args .a) (s .args .b)
+    (p .put-be-i32 .ensures ∙ ap (λ (z : ℤ). sets (s .args .out .now) 0 (i32Be z)) (toZ-ofZ w32 _ (s .fits .a)))
+    (q .put-be-i322 .ensures ∙ ap (λ (z : ℤ). sets (p .put-be-i32 .last .0) 4 (i32Be z)) (toZ-ofZ w32 _ (s .fits .b)))
+
+pub put-two-spec : {M : Type 1} → statement M
+put-two-spec = tie.close (tie.spec put-be-i32-requires put-be-i32-requires-2 same-length returns)

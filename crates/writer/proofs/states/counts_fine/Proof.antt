@@ -1,0 +1,33 @@
+-- `states::counts_fine` meets its contract: each return by the tests that led there.
+use borrow.Author.Tests.{le-leb, lt-leb, eq-eqb, ne-eqb}
+use borrow.Author.Needs.{needs}
+use Rattle.writer.proofs.states.counts_fine.Statement.{statement}
+use Rattle.writer.proofs.states.counts_fine.Tie as tie
+
+returns : tie.Need-returns
+returns c = rw (lt-leb 50 _ (c .if1 .taken))
+
+returns-2 : tie.Need-returns-2
+returns-2 c = rw (le-leb 50 _ (c .before .if1 .left), lt-leb 1 _ (c .if2 .taken))
+
+mul-if3 : tie.Need-mul-if3
+mul-if3 c = search needs
+
+add-if3 : tie.Need-add-if3
+add-if3 c = search needs
+
+returns-3 : tie.Need-returns-3
+returns-3 c = rw (le-leb 50 _ (c .before .before .if1 .left), le-leb 1 _ (c .before .if2 .left), lt-leb _ _ (c .if3 .taken))
+
+returns-4 : tie.Need-returns-4
+returns-4 c = rw (le-leb 50 _ (c .before .before .before .before .if1 .left), le-leb 1 _ (c .before .before .before .if2 .left), le-leb _ _ (c .before .before .if3 .left), c .before .if4 .taken, eq-eqb _ 50 (c .if5 .taken))
+
+returns-5 : tie.Need-returns-5
+returns-5 c = rw (le-leb 50 _ (c .before .before .before .before .if1 .left), le-leb 1 _ (c .before .before .before .if2 .left), le-leb _ _ (c .before .before .if3 .left), c .before .if4 .taken, ne-eqb _ 50 (c .if5 .left))
+
+returns-6 : tie.Need-returns-6
+returns-6 c = rw (le-leb 50 _ (c .before .before .before .if1 .left), le-leb 1 _ (c .before .before .if2 .left), le-leb _ _ (c .before .if3 .left), c .if4 .left)
+
+pub counts-fine-spec : {M : Type 1} → statement M
+counts-fine-spec =
+    tie.close (tie.spec returns returns-2 mul-if3 add-if3 returns-3 returns-4 returns-5 returns-6)

@@ -1,0 +1,77 @@
+-- `states::state_fine` meets its contract: by the kind that was found, and by the numbers without their signs.
+use mathlib.Core.Path.{_≡_, refl, sym, ap, _∙_}
+use lib.Dec.{eqb}
+use mir.Syntax.{w32}
+use mir.Val.{SFits}
+use mir.ValLaws.{toZ-ofZ}
+use borrow.Author.Needs.{needs}
+use Rattle.writer.specs.Judging.{naturalOf, lookUp, countsFine}
+use Rattle.writer.proofs.StateLaws.{fine-taken, fine-no}
+use Rattle.writer.proofs.states.state_fine.Statement.{statement}
+use Rattle.writer.proofs.states.state_fine.Tie as tie
+
+words-fit : (c : tie.Start) → SFits w32 (c .args .s .words .0)
+words-fit c = search needs
+
+number-fits : (c : tie.Start) → SFits w32 (c .args .s .number)
+number-fits c = search needs
+
+kind-fits : (c : tie.Start) → SFits w32 (c .args .s .kind)
+kind-fits c = search needs
+
+looked : (c : tie.After-look-up) → lookUp (c .before .before .before .args .s .kind) ≡ c .look-up .result
+looked c = ap lookUp (sym (toZ-ofZ w32 _ (kind-fits (c .before .before .before)))) ∙ sym (c .look-up .ensures)
+
+look-up-requires : tie.Need-look-up-requires
+look-up-requires c κs = search needs
+
+enum-known-k : tie.Need-enum-known-k
+enum-known-k c = search needs
+
+natural-requires : tie.Need-natural-requires
+natural-requires c κs = search needs
+
+natural-requires-2 : tie.Need-natural-requires-2
+natural-requires-2 c κs = search needs
+
+counts-fine-requires : tie.Need-counts-fine-requires
+counts-fine-requires c κs = search needs
+
+enum-told : tie.Need-enum-told
+enum-told c = search needs
+
+enum-told-2 : tie.Need-enum-told-2
+enum-told-2 c = search needs
+
+returns : tie.Need-returns
+returns c = let k = c .before .before .before .before .before .before .before in
+    let l = k .before .before in
+    let a = l .before .before .before in
+    let w = c .before .before .before .before in
+    let n = c .before .before in
+    let e = w .natural .ensures .0 ∙ ap naturalOf (toZ-ofZ w32 _ (words-fit a)) in
+    let f = n .natural2 .ensures .0 ∙ ap naturalOf (toZ-ofZ w32 _ (number-fits a)) in
+    c .counts-fine .ensures
+    ∙ ((λ i. countsFine (e i) (f i) (eqb (k .k .given .0 .0 .code) 0))
+    ∙ fine-taken (a .args .s) (k .k .given .0 .0) _ (looked l ∙ k .k .given .1))
+
+returns-2 : tie.Need-returns-2
+returns-2 c = fine-no (c .before .before .before .before .before .args .s) _ (looked (c .before .before) ∙ c .enum-told .given .1) refl
+
+returns-3 : tie.Need-returns-3
+returns-3 c = fine-no (c .before .before .before .before .before .args .s) _ (looked (c .before .before) ∙ c .enum-told2 .given .1) refl
+
+pub state-fine-spec : {M : Type 1} → statement M
+state-fine-spec =
+    tie.close
+    (tie.spec
+    look-up-requires
+    enum-known-k
+    natural-requires
+    natural-requires-2
+    counts-fine-requires
+    enum-told
+    enum-told-2
+    returns
+    returns-2
+    returns-3)

@@ -1,0 +1,206 @@
+-- What the parts of adding a record say to each other: the judges' answers, and the shape, its words and the next state by the kind that was found.
+use mathlib.Core.Path.{_≡_}
+use mathlib.Core.Bool.{Bool, true, false, cond, _&&_, _||_, not}
+use mathlib.Core.List.{List, [], _∷_}
+use mathlib.Core.Option.{Option, none, some}
+use Prim.Native.Nat.{ℕ, _+_, _*_, _-_, _^_, _≤_, _<_, min}
+use lib.Dec.{leb, ltb, eqb}
+use lib.Ieee.{Float}
+use lib.IntN.{ℤ, pos, negsuc}
+use lib.ListN.{length}
+use Rattle.format.specs.declared.kinds.Kind.{Kind}
+use Rattle.format.specs.declared.lengths.Formula.{Formula}
+use Rattle.format.specs.declared.units.Words.{Words}
+use Rattle.format.specs.Kinds.{known}
+use Rattle.format.specs.Encoding.{shapeWords}
+use Rattle.format.specs.Lengths.{Form, onePoint, parts, formOf, formula, contentWords}
+use Rattle.format.specs.Order.{first}
+use Rattle.format.specs.Said.{Said, gives, wrongSize, unknown, notTaken, mismatch, tables, long, roomBytes}
+use Rattle.format.specs.Shapes.{Shape, parted}
+use Rattle.format.specs.Units.{sameInt}
+use Rattle.header.specs.declared.bbox.BBoxZ.{BBoxZ}
+use Rattle.layouts.specs.Answers.{countsHeld}
+use Rattle.layouts.specs.Tables.{sum, partsOf}
+use Rattle.writer.specs.declared.State.{State}
+use Rattle.writer.specs.declared.AddAnswer.{AddAnswer}
+use Rattle.writer.specs.declared.AddAnswer.the-variants as AddIs
+use Rattle.writer.specs.declared.states.Looked.{Looked}
+use Rattle.writer.specs.declared.states.Looked.the-variants as LookedIs
+use Rattle.writer.specs.declared.judge.KindJudged.{KindJudged}
+use Rattle.writer.specs.declared.judge.KindJudged.the-variants as KindIs
+use Rattle.writer.specs.declared.judge.TablesJudged.{TablesJudged}
+use Rattle.writer.specs.declared.judge.TablesJudged.the-variants.{Agree, Disagree}
+use Rattle.writer.specs.declared.judge.LengthJudged.{LengthJudged}
+use Rattle.writer.specs.declared.judge.LengthJudged.the-variants.{Held, Long}
+use Rattle.writer.specs.declared.judge.RoomJudged.{RoomJudged}
+use Rattle.writer.specs.declared.judge.RoomJudged.the-variants.{Fits, Needs}
+use Rattle.writer.specs.declared.judge.Judged.{Judged}
+use Rattle.writer.specs.declared.judge.Judged.the-variants as JudgedIs
+use Rattle.writer.specs.Adding.{Lent, pointShape, lentShape, wordsThen, recordSize, bufferNeeded, lentAgree, heldThen, heldBox, addingOf, saidAdd}
+use Rattle.writer.specs.Boxes.{grown, ownBox}
+use Rattle.writer.specs.State.{isZero, kindAt, formAt, isSome, stateFine}
+
+-- ---- numbers and kinds
+
+-- the number, or 0 for one below
+abbrev pub naturalOf : ℤ → ℕ
+naturalOf (pos n) = n
+naturalOf (negsuc n) = 0
+
+abbrev pub wordsOf : ℕ → Words
+wordsOf n = record { 0 = pos n }
+
+-- the kind with a code, and its formula with m
+abbrev pub byForm : Kind → Option Form → Looked
+byForm k none = LookedIs.NotTaken
+byForm k (some form) = LookedIs.Taken k (formula form (k .z) (k .m))
+
+abbrev pub byKind : Option Kind → Looked
+byKind none = LookedIs.Unknown
+byKind (some k) = byForm k (formOf k)
+
+unfoldable pub lookUp : ℤ → Looked
+lookUp code = byKind (kindAt code)
+
+-- what is asked of a state's numbers; `first` says that its kind is 0
+abbrev pub countsFine : ℕ → ℕ → Bool → Bool
+countsFine words number first =
+    leb 50 words && (leb 1 number && (leb (50 + 6 * (number - 1)) words && (not first || (eqb words 50 && eqb number 1))))
+
+-- ---- a taken kind, not 0, has parts or one point; by it the shape, its points and its words
+
+abbrev pub formBy : Kind → Form
+formBy k = cond (k .parts) parts onePoint
+
+abbrev pub pointsBy : Kind → List ℕ → ℕ
+pointsBy k counts = cond (k .parts) (sum counts) 1
+
+-- the same; one more than the most, where it is more or where the counts are no such shape's
+abbrev pub pointsWithin : Kind → List ℕ → ℕ → ℕ
+pointsWithin k counts most = cond (k .parts) (min (sum counts) (most + 1)) (cond (eqb (length counts) 0) 1 (most + 1))
+
+abbrev pub agreeBy : Kind → List ℕ → List Float → List Float → List Float → Bool
+agreeBy k counts xy zs ms =
+    (k .parts || eqb (length counts) 0)
+    && eqb (length xy) (2 * pointsBy k counts)
+    && eqb (length zs) (cond (k .z) (pointsBy k counts) 0)
+    && eqb (length ms) (cond (k .m) (pointsBy k counts) 0)
+
+abbrev pub shapeBy : Kind → BBoxZ → List ℕ → List Float → List Float → List Float → Shape
+shapeBy k b counts xy zs ms = cond (k .parts) (parted (partsOf (k .z) (k .m) b counts xy zs ms)) (pointShape k xy zs ms)
+
+abbrev pub wordsBy : Kind → List ℕ → ℕ
+wordsBy k counts = contentWords (formBy k) (k .z) (k .m) (length counts) (pointsBy k counts)
+
+-- ---- the judges
+
+abbrev pub isRefused : AddAnswer → Bool
+isRefused (AddIs.Added n) = false
+isRefused AddIs.Size = true
+isRefused (AddIs.Unknown code) = true
+isRefused (AddIs.NotTaken code) = true
+isRefused (AddIs.Mismatch wanted found) = true
+isRefused AddIs.Tables = true
+isRefused AddIs.Long = true
+isRefused (AddIs.Room n) = true
+
+-- the tests of state and kind, before others
+abbrev pub kindTests : State → ℤ → List (Bool × Said ℕ) → List (Bool × Said ℕ)
+kindTests s code more =
+    (stateFine s, wrongSize 0)
+    ∷ (known code, unknown code)
+    ∷ (isSome (formAt code) && not (isZero code), notTaken code)
+    ∷ (isZero (s .kind) || sameInt (s .kind) code, mismatch (s .kind) code)
+    ∷ more
+
+-- what a kind that passed is known by
+pub record OfCode (code : ℤ) (k : Kind) : Type 0 where
+  pub kind-is : kindAt code ≡ some k
+  pub form-is : formAt code ≡ some (formBy k)
+
+pub record KindFine (s : State) (code : ℤ) (k : Kind) (f : Formula) : Type 0 where
+  pub fine : stateFine s ≡ true
+  pub passes : (more : List (Bool × Said ℕ)) (x : Said ℕ) → first (kindTests s code more) x ≡ first more x
+  pub of-code : OfCode code k
+  pub formula-is : f ≡ formula (formBy k) (k .z) (k .m)
+
+pub record KindRefused (s : State) (code : ℤ) (a : AddAnswer) : Type 0 where
+  pub refused : isRefused a ≡ true
+  pub says : (more : List (Bool × Said ℕ)) (x : Said ℕ) → saidAdd a ≡ first (kindTests s code more) x
+
+abbrev pub JudgesKind : State → ℤ → KindJudged → Type 0
+JudgesKind s code (KindIs.Fine k f) = KindFine s code k f
+JudgesKind s code (KindIs.Refused a) = KindRefused s code a
+
+abbrev pub tablesJudged : Kind → List ℕ → List Float → List Float → List Float → TablesJudged
+tablesJudged k counts xy zs ms = cond (agreeBy k counts xy zs ms) (Agree (pointsBy k counts)) Disagree
+
+-- the words of a formula with p parts and n points
+abbrev pub formulaWords : Formula → ℕ → ℕ → ℕ
+formulaWords f p n = f .fixed + 2 * p + f .point * n
+
+abbrev pub lengthJudged : ℕ → Formula → ℕ → ℕ → LengthJudged
+lengthJudged words f p n =
+    cond (ltb p (2 ^ 31) && ltb n (2 ^ 31) && ltb (words + (4 + formulaWords f p n)) (2 ^ 31)) (Held (wordsOf (formulaWords f p n))) Long
+
+abbrev pub roomJudged : ℕ → ℕ → ℕ → ℕ → RoomJudged
+roomJudged size out start entry = cond (leb (start + size) out) (cond (leb 8 entry) (Fits size) (Needs 8)) (Needs (min (start + size) (2 ^ 64 - 1)))
+
+-- the tests of the tables, the length and the room
+abbrev pub shapeTests : State → Lent → ℕ → ℕ → ℕ → List (Bool × Said ℕ)
+shapeTests s t out start entry =
+    (lentAgree t, tables)
+    ∷ (heldThen s t, long)
+    ∷ (leb (start + recordSize t) out, roomBytes (bufferNeeded start t))
+    ∷ (leb 8 entry, roomBytes 8)
+    ∷ []
+
+pub record Passed (s : State) (t : Lent) (out start entry : ℕ) (k : Kind) (w : Words) (size : ℕ) : Type 0 where
+  pub of-code : OfCode (t .code) k
+  pub agrees : agreeBy k (t .counts) (t .xy) (t .zs) (t .ms) ≡ true
+  pub counts-held : countsHeld (t .counts) ≡ true
+  pub held : wordsThen s t < 2 ^ 31
+  pub words-are : w ≡ wordsOf (shapeWords (lentShape t))
+  pub size-is : size ≡ recordSize t
+  pub room : start + recordSize t ≤ out
+  pub entry-room : 8 ≤ entry
+  pub passes : first (shapeTests s t out start entry) (gives (recordSize t)) ≡ gives (recordSize t)
+
+pub record Refused (s : State) (t : Lent) (out start entry : ℕ) (a : AddAnswer) : Type 0 where
+  pub refused : isRefused a ≡ true
+  pub says : saidAdd a ≡ first (shapeTests s t out start entry) (gives (recordSize t))
+
+abbrev pub JudgesShape : State → Lent → ℕ → ℕ → ℕ → Judged → Type 0
+JudgesShape s t out start entry (JudgedIs.Fine k w size) = Passed s t out start entry k w size
+JudgesShape s t out start entry (JudgedIs.Refused a) = Refused s t out start entry a
+
+pub record AllPassed (s : State) (t : Lent) (out start entry : ℕ) (k : Kind) (w : Words) (size : ℕ) : Type 0 where
+  pub fine : stateFine s ≡ true
+  pub shape : Passed s t out start entry k w size
+  pub says : gives size ≡ addingOf s t out start entry
+
+pub record AllRefused (s : State) (t : Lent) (out start entry : ℕ) (a : AddAnswer) : Type 0 where
+  pub refused : isRefused a ≡ true
+  pub says : saidAdd a ≡ addingOf s t out start entry
+
+abbrev pub Judges : State → Lent → ℕ → ℕ → ℕ → Judged → Type 0
+Judges s t out start entry (JudgedIs.Fine k w size) = AllPassed s t out start entry k w size
+Judges s t out start entry (JudgedIs.Refused a) = AllRefused s t out start entry a
+
+-- ---- the writing, and the next state
+
+-- what the body's writer asks: the tables agree, an i32 holds the counts, and there is room
+pub record Ready (k : Kind) (counts : List ℕ) (xy zs ms : List Float) (bytes : ℕ) : Type 0 where
+  pub z-has-m : k .z ≡ true → k .m ≡ true
+  pub agrees : agreeBy k counts xy zs ms ≡ true
+  pub counts-held : countsHeld counts ≡ true
+  pub room : 2 * wordsBy k counts ≤ 4 + bytes
+
+abbrev pub nextBy : State → Words → ℤ → Kind → BBoxZ → List Float → List Float → List Float → State
+nextBy s w code k b xy zs ms =
+    record {
+      words = wordsOf (naturalOf (s .words .0) + (4 + naturalOf (w .0)));
+      number = pos (naturalOf (s .number) + 1);
+      kind = code;
+      bbox = grown (ownBox k (formBy k) b xy zs ms) (heldBox s);
+    }

@@ -1,0 +1,241 @@
+// What is judged before the first byte is written: state and kind, the tables, the lengths, the room.
+ghost use mathlib.Core.Path.{_≡_};
+ghost use mathlib.Core.Bool.{true, cond};
+ghost use Prim.Native.Nat.{_+_, _-_, _^_, _<_, min};
+ghost use Rattle.format.specs.Lengths.{formula};
+ghost use Rattle.header.specs.declared.bbox.BBoxZ.{BBoxZ};
+ghost use Rattle.layouts.specs.Tables.{sum};
+ghost use Rattle.writer.specs.Adding.{lent};
+ghost use Rattle.writer.specs.Judging.{formBy, OfCode, JudgesKind, pointsWithin, tablesJudged, lengthJudged, roomJudged, JudgesShape, Judges};
+ghost use Rattle.writer.specs.State.{stateFine};
+use crate::AddAnswer;
+use crate::State;
+use crate::states::Looked;
+use crate::states::natural;
+use crate::states::words_after;
+use format::kinds::Kind;
+use format::lengths::Counted;
+use format::lengths::Formula;
+use format::units::Words;
+
+pub enum KindJudged {
+    Fine(Kind, Formula),
+    Refused(AddAnswer),
+}
+
+// The points that the tables agree on.
+pub enum TablesJudged {
+    Agree(usize),
+    Disagree,
+}
+
+// The content's words.
+pub enum LengthJudged {
+    Held(Words),
+    Long,
+}
+
+// The bytes of the record, or the bytes that a buffer has to have.
+pub enum RoomJudged {
+    Fits(usize),
+    Needs(usize),
+}
+
+// The kind, the content's words and the record's bytes.
+pub enum Judged {
+    Fine(Kind, Words, usize),
+    Refused(AddAnswer),
+}
+
+// The state, the kind's code, and both together: 3, 4, 9, 5.
+fn judge_kind(state: State, code: i32) -> KindJudged
+    ensures { λ r. ⌜ JudgesKind state code r ⌝ }
+{
+    if !crate::states::state_fine(state) {
+        return KindJudged::Refused(AddAnswer::Size);
+    }
+    match crate::states::look_up(code) {
+        Looked::Unknown => KindJudged::Refused(AddAnswer::Unknown(code)),
+        Looked::NotTaken => KindJudged::Refused(AddAnswer::NotTaken(code)),
+        Looked::Taken(k, f) => {
+            if k.code == 0 {
+                return KindJudged::Refused(AddAnswer::NotTaken(code));
+            }
+            let held = state.kind;
+            if held != 0 {
+                if held != code {
+                    return KindJudged::Refused(AddAnswer::Mismatch(held, code));
+                }
+            }
+            KindJudged::Fine(k, f)
+        }
+    }
+}
+
+// The sum of the counts, or one more than the most that it may be.
+fn summed(counts: &[u32], most: usize) -> usize
+    requires { ⌜ most < 2 ^ 62 ⌝ }
+    ensures { λ r. ⌜ r ≡ min (sum (now (counts .entry))) (most + 1) ⌝ }
+{
+    let mut total: usize = 0;
+    let mut i = 0;
+    while i < counts.len() {
+        total += counts[i] as usize;
+        if most < total {
+            return most + 1;
+        }
+        i += 1;
+    }
+    total
+}
+
+// The points of the shape: a point kind has no parts and one point. More than the most, where the counts are no such shape's.
+fn points(k: Kind, counts: &[u32], most: usize) -> usize
+    requires { ⌜ most < 2 ^ 62 ⌝ }
+    ensures { λ r. ⌜ r ≡ pointsWithin k (now (counts .entry)) most ⌝ }
+{
+    if k.parts {
+        return summed(counts, most);
+    }
+    if counts.len() == 0 { 1 } else { most + 1 }
+}
+
+// The number where the flag is set, else 0.
+fn where_set(flag: bool, n: usize) -> usize
+    ensures { λ r. ⌜ r ≡ cond flag n 0 ⌝ }
+{
+    if flag { n } else { 0 }
+}
+
+// The tables agree in length: 10.
+fn judge_tables(k: Kind, counts: &[u32], xy: &[f64], zs: &[f64], ms: &[f64]) -> TablesJudged
+    ensures { λ r. ⌜ r ≡ tablesJudged k (now (counts .entry)) (now (xy .entry)) (now (zs .entry)) (now (ms .entry)) ⌝ }
+{
+    let n = points(k, counts, xy.len());
+    if 2 * n != xy.len() {
+        return TablesJudged::Disagree;
+    }
+    if zs.len() != where_set(k.z, n) {
+        return TablesJudged::Disagree;
+    }
+    if ms.len() != where_set(k.m, n) {
+        return TablesJudged::Disagree;
+    }
+    TablesJudged::Agree(n)
+}
+
+// An i32 holds the counts, and the file's words with the record: 7.
+fn judge_length(words: u64, f: Formula, p: usize, n: usize) -> LengthJudged
+    requires { ⌜ words < 2 ^ 31 ⌝ }
+    ensures { λ r. ⌜ r ≡ lengthJudged words f p n ⌝ }
+{
+    if 0x7fff_ffff < p {
+        return LengthJudged::Long;
+    }
+    if 0x7fff_ffff < n {
+        return LengthJudged::Long;
+    }
+    match format::lengths::content_words(f, p as u32, n as u32) {
+        Counted::Long => LengthJudged::Long,
+        Counted::Is(content) => {
+            if 0x7fff_ffff < words_after(words, natural(content.0)) {
+                return LengthJudged::Long;
+            }
+            LengthJudged::Held(content)
+        }
+    }
+}
+
+// The sum, or the largest usize where it is more.
+fn saturated(start: usize, size: usize) -> usize
+    ensures { λ r. ⌜ r ≡ min (start + size) (2 ^ 64 - 1) ⌝ }
+{
+    if 0xffff_ffff_ffff_ffff - size < start {
+        0xffff_ffff_ffff_ffff
+    } else {
+        start + size
+    }
+}
+
+// The record's buffer first, then the entry's: 6.
+fn judge_room(size: usize, out: usize, start: usize, entry: usize) -> RoomJudged
+    ensures { λ r. ⌜ r ≡ roomJudged size out start entry ⌝ }
+{
+    let needed = saturated(start, size);
+    if out < start {
+        return RoomJudged::Needs(needed);
+    }
+    if out - start < size {
+        return RoomJudged::Needs(needed);
+    }
+    if entry < 8 {
+        return RoomJudged::Needs(8);
+    }
+    RoomJudged::Fits(size)
+}
+
+// A shape of a kind that was judged: 10, 7, 6.
+fn judge_shape(
+    state: State,
+    code: i32,
+    k: Kind,
+    f: Formula,
+    counts: &[u32],
+    xy: &[f64],
+    zs: &[f64],
+    ms: &[f64],
+    out: usize,
+    start: usize,
+    entry: usize,
+) -> Judged
+    requires { ⌜ stateFine state ≡ true ⌝ }
+    requires { ⌜ OfCode code k ⌝ }
+    requires { ⌜ f ≡ formula (formBy k) (k .z) (k .m) ⌝ }
+    ensures { λ r. ⌜ ((b : BBoxZ) → JudgesShape state (lent code b (now (counts .entry)) (now (xy .entry)) (now (zs .entry)) (now (ms .entry))) out start entry r) ⌝ }
+{
+    let TablesJudged::Agree(n) = judge_tables(k, counts, xy, zs, ms) else {
+        return Judged::Refused(AddAnswer::Tables);
+    };
+    let words = state.words;
+    let w = natural(words.0);
+    let LengthJudged::Held(content) = judge_length(w, f, counts.len(), n) else {
+        return Judged::Refused(AddAnswer::Long);
+    };
+    let size = 8 + 2 * (natural(content.0) as usize);
+    match judge_room(size, out, start, entry) {
+        RoomJudged::Needs(bytes) => Judged::Refused(AddAnswer::Room(bytes)),
+        RoomJudged::Fits(_) => Judged::Fine(k, content, size),
+    }
+}
+
+// All that is judged, in document 01's order.
+pub(crate) fn judge(
+    state: State,
+    code: i32,
+    counts: &[u32],
+    xy: &[f64],
+    zs: &[f64],
+    ms: &[f64],
+    out: usize,
+    start: usize,
+    entry: usize,
+) -> Judged
+    ensures { λ r. ⌜ ((b : BBoxZ) → Judges state (lent code b (now (counts .entry)) (now (xy .entry)) (now (zs .entry)) (now (ms .entry))) out start entry r) ⌝ }
+{
+    match judge_kind(state, code) {
+        KindJudged::Refused(answer) => Judged::Refused(answer),
+        KindJudged::Fine(k, f) => judge_shape(
+            state,
+            code,
+            k,
+            f,
+            counts,
+            xy,
+            zs,
+            ms,
+            out,
+            start,
+            entry,
+        ),
+    }
+}

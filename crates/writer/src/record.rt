@@ -1,0 +1,140 @@
+// A record that was judged: its bytes at the front of a lent output, its index entry, and the next state.
+ghost use mathlib.Core.Path.{_≡_};
+ghost use mathlib.Core.List.{_++_};
+ghost use Prim.Native.Nat.{_+_, _*_, _^_, _≤_, _<_};
+ghost use lib.IntN.{pos};
+ghost use lib.ListN.{length};
+ghost use lib.Seq.{sets};
+ghost use mir.Syntax.{w32};
+ghost use mir.Val.{ofZ};
+ghost use Rattle.format.specs.Encoding.{shapeBytes, recordBytes, twoBig};
+ghost use Rattle.format.specs.Numbers.{f64sLe};
+ghost use Rattle.writer.specs.Adding.{heldBox};
+ghost use Rattle.writer.specs.Boxes.{ownBox};
+ghost use Rattle.writer.specs.Judging.{naturalOf, formBy, shapeBy, wordsOf, wordsBy, Ready, nextBy};
+use crate::State;
+use crate::states::natural;
+use crate::states::words_after;
+use format::kinds::Kind;
+use format::units::Words;
+use header::bbox::BBoxZ;
+
+// Two numbers at the front, the high byte first: a record's header, or an index entry.
+pub(crate) fn put_two(out: &mut [u8], a: i32, b: i32)
+    requires { ⌜ 8 ≤ length (now out) ⌝ }
+    ensures { λ _. ⌜ now (out .exit) ≡ sets (now (out .entry)) 0 (twoBig (ofZ w32 a) (ofZ w32 b)) ⌝ }
+{
+    fields::put_be_i32(out, 0, a);
+    fields::put_be_i32(out, 4, b);
+}
+
+// A point's x, y, and z and m where there are any.
+fn put_point(out: &mut [u8], xy: &[f64], zs: &[f64], ms: &[f64])
+    requires { ⌜ (length (now xy) ≡ 2) × (16 + 8 * length (now zs) + 8 * length (now ms) ≤ length (now out)) ⌝ }
+    ensures { λ _. ⌜ now (out .exit) ≡ sets (now (out .entry)) 0 (f64sLe (now (xy .entry)) ++ (f64sLe (now (zs .entry)) ++ f64sLe (now (ms .entry)))) ⌝ }
+{
+    fields::write_doubles(out, 0, xy);
+    fields::write_doubles(out, 16, zs);
+    fields::write_doubles(out, 16 + 8 * zs.len(), ms);
+}
+
+// What follows the kind's field, by the kind's flags.
+fn put_body(
+    out: &mut [u8],
+    k: Kind,
+    bbox: BBoxZ,
+    counts: &[u32],
+    xy: &[f64],
+    zs: &[f64],
+    ms: &[f64],
+)
+    requires { ⌜ Ready k (now counts) (now xy) (now zs) (now ms) (length (now out)) ⌝ }
+    ensures { λ _. ⌜ now (out .exit) ≡ sets (now (out .entry)) 0 (shapeBytes (shapeBy k bbox (now (counts .entry)) (now (xy .entry)) (now (zs .entry)) (now (ms .entry)))) ⌝ }
+{
+    if !k.parts {
+        put_point(out, xy, zs, ms);
+        return;
+    }
+    if k.z {
+        layouts::write_point_z_shape(out, bbox, counts, xy, zs, ms);
+        return;
+    }
+    if k.m {
+        layouts::write_point_m_shape(out, bbox, counts, xy, ms);
+        return;
+    }
+    layouts::write_point_shape(out, bbox, counts, xy);
+}
+
+// The whole record at the front of the output.
+pub(crate) fn put_record(
+    out: &mut [u8],
+    number: i32,
+    content: Words,
+    code: i32,
+    k: Kind,
+    bbox: BBoxZ,
+    counts: &[u32],
+    xy: &[f64],
+    zs: &[f64],
+    ms: &[f64],
+)
+    requires { ⌜ Ready k (now counts) (now xy) (now zs) (now ms) (length (now out)) ⌝ }
+    requires { ⌜ 8 + 2 * wordsBy k (now counts) ≤ length (now out) ⌝ }
+    requires { ⌜ code ≡ pos (k .code) ⌝ }
+    requires { ⌜ content ≡ wordsOf (wordsBy k (now counts)) ⌝ }
+    ensures { λ _. ⌜ now (out .exit) ≡ sets (now (out .entry)) 0 (recordBytes k (ofZ w32 number) (shapeBy k bbox (now (counts .entry)) (now (xy .entry)) (now (zs .entry)) (now (ms .entry)))) ⌝ }
+{
+    put_two(out, number, content.0);
+    fields::put_le_i32(out, 8, code);
+    put_body(&mut out[12..], k, bbox, counts, xy, zs, ms);
+}
+
+// The box that a record gives to the header.
+fn own_box(k: Kind, bbox: BBoxZ, xy: &[f64], zs: &[f64], ms: &[f64]) -> BBoxZ
+    ensures { λ r. ⌜ r ≡ ownBox k (formBy k) bbox (now (xy .entry)) (now (zs .entry)) (now (ms .entry)) ⌝ }
+{
+    if k.parts {
+        return crate::boxes::flat_box(k, bbox);
+    }
+    crate::boxes::flat_box(k, crate::boxes::point_box(xy, zs, ms))
+}
+
+// The box that it finds.
+fn held_box(state: State) -> BBoxZ
+    ensures { λ r. ⌜ r ≡ heldBox state ⌝ }
+{
+    if state.kind == 0 {
+        return crate::boxes::start_box();
+    }
+    state.bbox
+}
+
+// The state after the record.
+pub(crate) fn next_state(
+    state: State,
+    content: Words,
+    code: i32,
+    k: Kind,
+    bbox: BBoxZ,
+    xy: &[f64],
+    zs: &[f64],
+    ms: &[f64],
+) -> State
+    requires { ⌜ naturalOf (state .words .0) + (4 + naturalOf (content .0)) < 2 ^ 31 ⌝ }
+    requires { ⌜ naturalOf (state .number) + 1 < 2 ^ 31 ⌝ }
+    ensures { λ r. ⌜ r ≡ nextBy state content code k bbox (now (xy .entry)) (now (zs .entry)) (now (ms .entry)) ⌝ }
+{
+    let own = own_box(k, bbox, xy, zs, ms);
+    let held = held_box(state);
+    let grown = crate::boxes::grow(own, held);
+    let before = state.words;
+    let words = words_after(natural(before.0), natural(content.0));
+    let number = natural(state.number) + 1;
+    State {
+        words: Words(words as i32),
+        number: number as i32,
+        kind: code,
+        bbox: grown,
+    }
+}

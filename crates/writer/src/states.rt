@@ -1,0 +1,113 @@
+// The writer's state: the one to start from, and which values are writer states.
+ghost use mathlib.Core.Path.{_≡_};
+ghost use Prim.Native.Nat.{_+_, _*_, _-_, _^_, _≤_, _<_};
+ghost use Rattle.writer.specs.Judging.{naturalOf, lookUp, countsFine, wordsOf};
+ghost use Rattle.writer.specs.State.{fresh, stateFine};
+use crate::State;
+use format::kinds::Found;
+use format::kinds::Kind;
+use format::lengths::Content;
+use format::lengths::Formula;
+use format::units::Words;
+use header::bbox::BBoxZ;
+
+// The kind with a code, and the formula of its content with m, where it is taken.
+pub enum Looked {
+    Taken(Kind, Formula),
+    NotTaken,
+    Unknown,
+}
+
+impl State {
+    // No record yet.
+    pub fn new() -> Self
+        ensures { λ r. ⌜ r ≡ fresh ⌝ }
+    {
+        let bounds = BBoxZ {
+            xmin: 0.0,
+            ymin: 0.0,
+            xmax: 0.0,
+            ymax: 0.0,
+            zmin: 0.0,
+            zmax: 0.0,
+            mmin: 0.0,
+            mmax: 0.0,
+        };
+        State {
+            words: Words(50),
+            number: 1,
+            kind: 0,
+            bbox: bounds,
+        }
+    }
+}
+
+// The number, or 0 for one below.
+pub(crate) fn natural(z: i32) -> u64
+    ensures { λ r. ⌜ (r ≡ naturalOf z) × (r < 2 ^ 31) ⌝ }
+{
+    if z < 0 { 0 } else { z as u64 }
+}
+
+// The kind of a code in the two tables of the format.
+pub(crate) fn look_up(code: i32) -> Looked
+    ensures { λ r. ⌜ r ≡ lookUp code ⌝ }
+{
+    let Found::Is(k) = format::kinds::find_kind(code) else {
+        return Looked::Unknown;
+    };
+    let Content::Taken(l) = format::lengths::lengths_of(k.code) else {
+        return Looked::NotTaken;
+    };
+    let f = l.with;
+    Looked::Taken(k, f)
+}
+
+// Words at least 50, number at least 1, words for that many records, and of kind 0 only the start.
+fn counts_fine(words: u64, number: u64, first: bool) -> bool
+    requires { ⌜ number < 2 ^ 31 ⌝ }
+    ensures { λ r. ⌜ r ≡ countsFine words number first ⌝ }
+{
+    if words < 50 {
+        return false;
+    }
+    if number < 1 {
+        return false;
+    }
+    if words < 50 + 6 * (number - 1) {
+        return false;
+    }
+    if first {
+        if words == 50 { number == 1 } else { false }
+    } else {
+        true
+    }
+}
+
+// Whether the value is a writer state.
+pub fn state_fine(s: State) -> bool
+    ensures { λ r. ⌜ r ≡ stateFine s ⌝ }
+{
+    let words = s.words;
+    match look_up(s.kind) {
+        Looked::Taken(k, _) => counts_fine(natural(words.0), natural(s.number), k.code == 0),
+        Looked::NotTaken => false,
+        Looked::Unknown => false,
+    }
+}
+
+// The file's words after a record: its header takes 4.
+pub(crate) fn words_after(words: u64, content: u64) -> u64
+    requires { ⌜ (words < 2 ^ 31) × (content < 2 ^ 31) ⌝ }
+    ensures { λ r. ⌜ r ≡ words + (4 + content) ⌝ }
+{
+    words + (4 + content)
+}
+
+// The words of the .shx: 50, and 4 for each record before the next number.
+pub(crate) fn index_words(number: i32) -> Words
+    requires { ⌜ (1 ≤ naturalOf number) × (50 + 4 * (naturalOf number - 1) < 2 ^ 31) ⌝ }
+    ensures { λ r. ⌜ r ≡ wordsOf (50 + 4 * (naturalOf number - 1)) ⌝ }
+{
+    Words((50 + 4 * (natural(number) - 1)) as i32)
+}
