@@ -12,14 +12,14 @@ use Rattle.format.specs.Numbers.{leF64, doublesAt}
 use Rattle.format.specs.Order.{first, fieldsFrom}
 use Rattle.format.specs.Said.{Said, gives, short}
 use Rattle.format.specs.Shapes.{Parts, parted, there, PartsOf}
-use Rattle.format.specs.WellFormed.{PartsWellFormed}
+use Rattle.readback.specs.Held.{PartsHeld}
 use Rattle.format.proofs.OrderLaws.{fields-whole}
 use Rattle.multipart.specs.Answers.{Two, countsOf}
 use Rattle.multipart.specs.declared.Body.{Body}
 use Rattle.multipart.specs.Body.{partsIn, pointsIn, zAt, mAt, roomTests, bodyIn, bodyOf, countTests, partTests, differencesIn, pairsAt, measureTests, restTests}
 use Rattle.multipart.specs.Walks.{Passes}
 use Rattle.multipart.proofs.TestLaws.{first-append}
-use Rattle.meaning.proofs.FiniteLaws.{finite-fit}
+use Rattle.readback.proofs.Held.{held-fit}
 use Rattle.meaning.proofs.Laid.{boxDoubles}
 use Rattle.readback.specs.ReadBack.{Small, value, bodyOfParts, Roomy}
 use Rattle.readback.proofs.Counts.{parts-pass}
@@ -42,7 +42,7 @@ store-fits : (flag : Bool) (n room : ℕ) → (flag ≡ true → n ≤ room) →
 store-fits true n room h = le-leb n room (h refl)
 store-fits false n room h = refl
 
-module _ (k : Kind) (s : Parts) (o : PartsOf k s) (v : PartsWellFormed k s) (small : Small (parted s)) where
+module _ (k : Kind) (s : Parts) (o : PartsOf k s) (v : PartsHeld s) (small : Small (parted s)) where
   -- the box, the counts and their signs
   counts-pass : {A : Type 0} (a : Said A) → first (countTests (bytes s)) a ≡ a
   counts-pass a =
@@ -78,7 +78,7 @@ module _ (k : Kind) (s : Parts) (o : PartsOf k s) (v : PartsWellFormed k s) (sma
   -- ---- the body
 
   box-are : doublesAt 4 0 (bytes s) ≡ map value (boxDoubles (s .box))
-  box-are = doubles-back 0 4 (boxDoubles (s .box)) (bytes s) refl (finite-fit (boxDoubles (s .box)) (v .box)) (at-box k s o v small)
+  box-are = doubles-back 0 4 (boxDoubles (s .box)) (bytes s) refl (held-fit (boxDoubles (s .box)) (v .box)) (at-box k s o v small)
 
   body-is : bodyIn (there (s .z)) (there (s .m)) (bytes s) ≡ bodyOfParts s
   unfolding bodyIn doublesAt

@@ -14,13 +14,14 @@ use Rattle.format.specs.Bytes.{leBytes}
 use Rattle.format.specs.Encoding.{startsFrom, shapeBytes, shapeWords}
 use Rattle.format.specs.Numbers.{leI32}
 use Rattle.format.specs.Shapes.{Parts, parted, there, PartsOf}
-use Rattle.format.specs.WellFormed.{coordinates, PartsWellFormed}
+use Rattle.format.specs.WellFormed.{coordinates}
+use Rattle.readback.specs.Held.{PartsHeld}
 use Rattle.format.proofs.ByteLaws.{length-leBytes}
 use Rattle.multipart.specs.Body.{differencesIn, countsIn, pointsIn, pairsAt, zAt, mAt, raised, xyIn, zIn, mIn}
 use Rattle.multipart.specs.Parts.{countOf, startsAt}
 use Rattle.meaning.proofs.Cuts.{length-startsFrom, fit-starts}
 use Rattle.meaning.proofs.Doubles.{measured, count, writeIf}
-use Rattle.meaning.proofs.FiniteLaws.{finite-fit}
+use Rattle.readback.proofs.Held.{held-fit}
 use Rattle.meaning.proofs.Laid.{parts-words, boxDoubles, partsDoubles, parts-laid, length-shape}
 use Rattle.meaning.proofs.Pairs.{length-coordinates}
 use Rattle.meaning.proofs.Places.{Stands, all-behind, front, back}
@@ -54,7 +55,7 @@ measure-size : (flag : Bool) (n : ℕ) → 8 * cond flag (2 + n) 0 ≡ cond flag
 measure-size true n = omega arith
 measure-size false n = refl
 
-module _ (k : Kind) (s : Parts) (o : PartsOf k s) (v : PartsWellFormed k s) (small : Small (parted s)) where
+module _ (k : Kind) (s : Parts) (o : PartsOf k s) (v : PartsHeld s) (small : Small (parted s)) where
   -- ---- how long they are
 
   words : shapeWords (parted s) ≡ 22 + 2 * parts s + 4 * count (measured (points s)) (points s) (there (s .z)) (there (s .m))
@@ -171,7 +172,7 @@ module _ (k : Kind) (s : Parts) (o : PartsOf k s) (v : PartsWellFormed k s) (sma
   xy-are =
       rw (points-are, pairs-place)
       (doubles-back (pairsPlace s) (2 * points s) (coordinates (flatten (s .parts))) (bytes s) (length-coordinates (flatten (s .parts)))
-      (finite-fit (coordinates (flatten (s .parts))) (v .points))
+      (held-fit (coordinates (flatten (s .parts))) (v .points))
       (front (pairsPlace s) (16 * points s) (run 8 (coordinates (flatten (s .parts)))) (run 8 measures) (bytes s) length-pairs at-doubles))
 
   pub z-are : zIn (there (s .z)) (bytes s) ≡ valuesOf (s .z)

@@ -2,6 +2,7 @@
 mod Bodies
 mod Contents
 mod Counts
+pub mod Held
 mod InParts
 mod Measures
 mod Numbers

@@ -10,11 +10,11 @@ use lib.ListN.{length}
 use Rattle.format.specs.Bytes.{leBytes}
 use Rattle.format.specs.Numbers.{doublesAt}
 use Rattle.format.specs.Shapes.{Measure, there, Covers}
-use Rattle.format.specs.WellFormed.{measureFinite}
+use Rattle.readback.specs.Held.{measureHeld}
 use Rattle.format.proofs.ByteLaws.{length-leBytes}
 use Rattle.multipart.specs.Body.{rangeAt, noRange}
 use Rattle.meaning.proofs.Doubles.{measured, writeIf}
-use Rattle.meaning.proofs.FiniteLaws.{finite-fit}
+use Rattle.readback.proofs.Held.{held-fit}
 use Rattle.meaning.proofs.Places.{Stands, front, back}
 use Rattle.meaning.proofs.Runs.{run, run-append, length-run}
 use Rattle.readback.specs.ReadBack.{rangeOf, valuesOf}
@@ -30,20 +30,20 @@ length-laid n none c = refl
 length-laid n (some r) c = omega (arith, length-run 8 (r .low ∷ r .high ∷ r .values))
 
 module _ (n at : ℕ) (s : List ℕ) where
-  pub range-back : (o : Option Measure) → measureFinite o → Stands at (laid n o) s → cond (there o) (rangeAt at s) noRange ≡ rangeOf o
+  pub range-back : (o : Option Measure) → measureHeld o → Stands at (laid n o) s → cond (there o) (rangeAt at s) noRange ≡ rangeOf o
   unfolding flatten
   range-back none f p = refl
   range-back (some r) f p =
       let later : List ℕ = leBytes 8 (r .high) ++ run 8 (r .values) in
-      let low = double-back (r .low) at s (f .0 .bits) (front at 8 (leBytes 8 (r .low)) later s (length-leBytes 8 (r .low)) p) in
+      let low = double-back (r .low) at s (f .0) (front at 8 (leBytes 8 (r .low)) later s (length-leBytes 8 (r .low)) p) in
       let behind = back at 8 (leBytes 8 (r .low)) later s (length-leBytes 8 (r .low)) p in
-      let high = double-back (r .high) (at + 8) s (f .1 .0 .bits) (front (at + 8) 8 (leBytes 8 (r .high)) (run 8 (r .values)) s (length-leBytes 8 (r .high)) behind) in
+      let high = double-back (r .high) (at + 8) s (f .1 .0) (front (at + 8) 8 (leBytes 8 (r .high)) (run 8 (r .values)) s (length-leBytes 8 (r .high)) behind) in
       λ i. record { low = low i; high = high i }
 
-  pub values-back : (o : Option Measure) → Covers n o → measureFinite o → Stands at (laid n o) s → cond (there o) (doublesAt n (at + 16) s) [] ≡ valuesOf o
+  pub values-back : (o : Option Measure) → Covers n o → measureHeld o → Stands at (laid n o) s → cond (there o) (doublesAt n (at + 16) s) [] ≡ valuesOf o
   values-back none c f p = refl
   values-back (some r) c f p =
-      doubles-back (at + 16) n (r .values) s c (finite-fit (r .values) (f .1 .1))
+      doubles-back (at + 16) n (r .values) s c (held-fit (r .values) (f .1 .1))
       (back at 16 (run 8 (r .low ∷ r .high ∷ [])) (run 8 (r .values)) s (length-run 8 (r .low ∷ r .high ∷ []))
       (rw (run-append 8 (r .low ∷ r .high ∷ []) (r .values)) at p))
 

@@ -17,7 +17,7 @@ use Rattle.format.specs.Lengths.{onePoint, contentWords}
 use Rattle.format.specs.Numbers.{leF64, doublesAt}
 use Rattle.format.specs.Said.{gives, short}
 use Rattle.format.specs.Shapes.{Point, point, there, PointOf}
-use Rattle.format.specs.WellFormed.{PointWellFormed, valueFinite}
+use Rattle.readback.specs.Held.{PointHeld, valueHeld}
 use Rattle.format.proofs.ByteLaws.{length-leBytes}
 use Rattle.format.proofs.OrderLaws.{fields-whole}
 use Rattle.record.specs.Reading.{pointOf, pointIn, pointShape, doublesOf}
@@ -36,10 +36,10 @@ use Rattle.readback.proofs.Numbers.{double-back, doubles-back}
 abbrev laid : Option ℕ → List ℕ
 laid o = run 8 (writeIf Doubles.value o)
 
-value-back : (at : ℕ) (s : List ℕ) (o : Option ℕ) → valueFinite o → Stands at (laid o) s → cond (there o) (leF64 at s) (ofInt binary64 (pos 0)) ≡ valueOr o
+value-back : (at : ℕ) (s : List ℕ) (o : Option ℕ) → valueHeld o → Stands at (laid o) s → cond (there o) (leF64 at s) (ofInt binary64 (pos 0)) ≡ valueOr o
 unfolding flatten
 value-back at s none f p = refl
-value-back at s (some d) f p = double-back d at s (f .bits) (front at 8 (leBytes 8 d) [] s (length-leBytes 8 d) p)
+value-back at s (some d) f p = double-back d at s f (front at 8 (leBytes 8 d) [] s (length-leBytes 8 d) p)
 
 length-laid : (o : Option ℕ) → length (laid o) ≡ cond (there o) 8 0
 length-laid none = length-run 8 []
@@ -49,7 +49,7 @@ m-place : (z : Bool) → cond z 28 20 ≡ 20 + cond z 8 0
 m-place true = refl
 m-place false = refl
 
-module _ (k : Kind) (xy : Point) (z m : Option ℕ) (t : TakenKind k) (o : PointOf k z m) (v : PointWellFormed xy z m) where
+module _ (k : Kind) (xy : Point) (z m : Option ℕ) (t : TakenKind k) (o : PointOf k z m) (v : PointHeld xy z m) where
   abbrev bytes : List ℕ
   bytes = content k (point xy z m)
 
@@ -69,18 +69,18 @@ module _ (k : Kind) (xy : Point) (z m : Option ℕ) (t : TakenKind k) (o : Point
 
   two-are : doublesAt 2 4 bytes ≡ map value two
   two-are =
-      doubles-back 4 2 two bytes refl (v .x-finite .bits, (v .y-finite .bits, tt))
+      doubles-back 4 2 two bytes refl (v .x-held, (v .y-held, tt))
       (front 4 16 (run 8 two) (run 8 measures) bytes (length-run 8 two) at4)
 
   z-is : cond (k .z) (leF64 20 bytes) (ofInt binary64 (pos 0)) ≡ valueOr z
   unfolding content
-  z-is = rw (← o .has-z) (value-back 20 bytes z (v .z-finite) (front 20 _ (laid z) (laid m) bytes (length-laid z) at20))
+  z-is = rw (← o .has-z) (value-back 20 bytes z (v .z-held) (front 20 _ (laid z) (laid m) bytes (length-laid z) at20))
 
   m-is : cond (k .m) (leF64 (cond (k .z) 28 20) bytes) (ofInt binary64 (pos 0)) ≡ valueOr m
   unfolding content
   m-is =
       rw (← o .has-z, ← o .has-m, m-place (there z))
-      (value-back _ bytes m (v .m-finite) (back 20 _ (laid z) (laid m) bytes (length-laid z) at20))
+      (value-back _ bytes m (v .m-held) (back 20 _ (laid z) (laid m) bytes (length-laid z) at20))
 
   point-is : pointShape (pos (k .code)) (pointIn k bytes) ≡ shapedAs k (point xy z m)
   unfolding doublesAt

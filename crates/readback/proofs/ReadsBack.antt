@@ -6,7 +6,7 @@ use Rattle.format.specs.declared.kinds.Kind.{Kind}
 use Rattle.format.specs.Encoding.{content, shapeWords}
 use Rattle.format.specs.Said.{gives}
 use Rattle.format.specs.Shapes.{Parts, null, point, parted, there, PartsOf}
-use Rattle.format.specs.WellFormed.{PartsWellFormed}
+use Rattle.readback.specs.Held.{PartsHeld}
 use Rattle.record.specs.Reading.{hasM, sizeRight, partsOf}
 use Rattle.rules.specs.Meaning.{TakenKind}
 use Rattle.meaning.proofs.Decode.{if-only}
@@ -21,7 +21,7 @@ pub stores-back : StoresBack
 stores-back k s o v small =
     rw (behind k (parted s)) (counts-are k s o v small, xy-are k s o v small, z-are k s o v small, m-are k s o v small)
 
-module _ (k : Kind) (s : Parts) (t : TakenKind k) (o : PartsOf k s) (v : PartsWellFormed k s) (small : Small (parted s)) where
+module _ (k : Kind) (s : Parts) (t : TakenKind k) (o : PartsOf k s) (v : PartsHeld s) (small : Small (parted s)) where
   has-m : hasM k (size (parted s)) (two s) ≡ there (s .m)
   unfolding shapeWords
   has-m = rw (← o .has-z) (m-there (there (s .z)) (parts s) (points s) (k .m) (there (s .m)) (if-only (k .m) (s .m) (o .may-have-m)))

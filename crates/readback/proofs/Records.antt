@@ -15,6 +15,7 @@ use Rattle.meaning.proofs.EachRecord.{kind-at}
 use Rattle.meaning.proofs.Entries.{entry-names, record-holds}
 use Rattle.meaning.proofs.Record.{length-content}
 use Rattle.readback.specs.ReadBack.{ReadsRecords, contentAt}
+use Rattle.readback.proofs.Held.{well-held}
 use Rattle.readback.proofs.ReadsBack.{reads-back}
 
 well-at : (k : Kind) (ss : List Shape) (i : ℕ) → AllWellFormed k ss → i < length ss → WellFormed k (getD ss i null)
@@ -30,5 +31,5 @@ reads-records kind box ss shp shx f k h j small =
     let within = entry-names kind box ss shp shx f k h j .record-within in
     let long = length-field (2 * extentOf k shx) (2 * offsetOf k shx + 8) shp (omega arith) in
     let extent : 2 * extentOf k shx ≡ 2 * shapeWords s = sym long ∙ (ap length holds ∙ length-content kind s o) in
-    let back = reads-back kind s (f .kind) o (well-at kind ss (k - 1) (f .fine) (omega arith)) (omega arith) in
+    let back = reads-back kind s (f .kind) o (well-held kind s (well-at kind ss (k - 1) (f .fine) (omega arith))) (omega arith) in
     rw (holds, extent) back

@@ -1,2 +1,3 @@
 -- What reading gives for the encoding of a shape, stated for a reader.
+pub mod Held
 pub mod ReadBack

@@ -13,7 +13,7 @@ use Rattle.format.specs.Bytes.{field}
 use Rattle.format.specs.Encoding.{Box, content, shapeWords}
 use Rattle.format.specs.Said.{gives}
 use Rattle.format.specs.Shapes.{Measure, Parts, Shape, null, point, parted, there, OfKind}
-use Rattle.format.specs.WellFormed.{WellFormed, coordinates}
+use Rattle.format.specs.WellFormed.{coordinates}
 use Rattle.multipart.specs.declared.Body.{Body}
 use Rattle.multipart.specs.declared.Range.{Range}
 use Rattle.multipart.specs.Body.{noRange, raised, countsIn, xyIn, zIn, mIn}
@@ -21,6 +21,7 @@ use Rattle.meaning.specs.Consequences.{offsetOf, extentOf}
 use Rattle.record.specs.declared.Wanted.the-variants as Wants
 use Rattle.record.specs.Reading.{Shaped, nullShape, pointShape, partsShape, codeIn, kindAt, recordOf}
 use Rattle.rules.specs.Meaning.{TakenKind, FileOf}
+use Rattle.readback.specs.Held.{Held}
 
 -- the double with these bits
 abbrev pub value : ℕ → Float
@@ -86,7 +87,7 @@ pub record ReadsShape (k : Kind) (s : Shape) (size : Bytes) (bytes : List ℕ) :
   pub answer : (counts xy zs ms : ℕ) → Roomy s counts xy zs ms → recordOf Wants.Any size bytes counts xy zs ms ≡ gives (shapedAs k s)
   pub stores : StoresShape s bytes
 
--- ---- the encoding of a well-formed shape of a taken kind, whose content has at most 2,147,483,647 bytes
+-- ---- the encoding of a shape of a taken kind, whose doubles have 64 bits each, as a well-formed one has, and whose content has at most 2,147,483,647 bytes
 
 abbrev pub Small : Shape → Type 0
 Small s = 2 * shapeWords s < 2 ^ 31
@@ -95,10 +96,10 @@ abbrev pub size : Shape → Bytes
 size s = record { 0 = pos (2 * shapeWords s) }
 
 abbrev pub StoresBack : Type 0
-StoresBack = (k : Kind) (s : Parts) → OfKind k (parted s) → WellFormed k (parted s) → Small (parted s) → StoresShape (parted s) (content k (parted s))
+StoresBack = (k : Kind) (s : Parts) → OfKind k (parted s) → Held (parted s) → Small (parted s) → StoresShape (parted s) (content k (parted s))
 
 abbrev pub ReadsBack : Type 0
-ReadsBack = (k : Kind) (s : Shape) → TakenKind k → OfKind k s → WellFormed k s → Small s → ReadsShape k s (size s) (content k s)
+ReadsBack = (k : Kind) (s : Shape) → TakenKind k → OfKind k s → Held s → Small s → ReadsShape k s (size s) (content k s)
 
 -- ---- an accepted pair: record k stands where index entry k says, and has that length
 

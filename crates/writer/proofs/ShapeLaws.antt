@@ -73,11 +73,11 @@ agreed k counts xy zs ms e =
 
 -- ---- the words of the shape
 
-there-measure : (flag : Bool) (low high : Float) (vs : List Float) → there (measureOf flag low high vs) ≡ flag
+pub there-measure : (flag : Bool) (low high : Float) (vs : List Float) → there (measureOf flag low high vs) ≡ flag
 there-measure true low high vs = refl
 there-measure false low high vs = refl
 
-there-value : (flag : Bool) (vs : List Float) → length vs ≡ cond flag 1 0 → there (valueOf flag vs) ≡ flag
+pub there-value : (flag : Bool) (vs : List Float) → length vs ≡ cond flag 1 0 → there (valueOf flag vs) ≡ flag
 there-value true [] e = absurd (omega arith)
 there-value true (x ∷ vs) e = refl
 there-value false vs e = refl

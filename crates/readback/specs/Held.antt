@@ -1,0 +1,35 @@
+-- A shape whose doubles have 64 bits each, infinities and NaN among them. A well-formed shape is one: `well-held` in proofs/Held.antt.
+use mathlib.Core.List.{List, [], _∷_, flatten}
+use mathlib.Core.Option.{Option, none, some}
+use Prim.Native.Nat.{ℕ, _^_, _<_}
+use Rattle.format.specs.Shapes.{Point, Measure, Parts, Shape, null, point, parted}
+use Rattle.format.specs.WellFormed.{coordinates}
+
+abbrev pub AllHeld : List ℕ → Type 0
+AllHeld [] = Unit {0}
+AllHeld (d ∷ ds) = (d < 2 ^ 64) × AllHeld ds
+
+abbrev pub valueHeld : Option ℕ → Type 0
+valueHeld none = Unit {0}
+valueHeld (some d) = d < 2 ^ 64
+
+abbrev pub measureHeld : Option Measure → Type 0
+measureHeld none = Unit {0}
+measureHeld (some r) = AllHeld (r .low ∷ r .high ∷ r .values)
+
+pub record PartsHeld (s : Parts) : Type 0 where
+  pub box : AllHeld (s .box .xmin ∷ s .box .ymin ∷ s .box .xmax ∷ s .box .ymax ∷ [])
+  pub points : AllHeld (coordinates (flatten (s .parts)))
+  pub z : measureHeld (s .z)
+  pub m : measureHeld (s .m)
+
+pub record PointHeld (xy : Point) (z m : Option ℕ) : Type 0 where
+  pub x-held : xy .x < 2 ^ 64
+  pub y-held : xy .y < 2 ^ 64
+  pub z-held : valueHeld z
+  pub m-held : valueHeld m
+
+abbrev pub Held : Shape → Type 0
+Held null = Unit {0}
+Held (point xy z m) = PointHeld xy z m
+Held (parted s) = PartsHeld s
