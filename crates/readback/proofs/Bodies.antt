@@ -12,17 +12,17 @@ use Rattle.format.specs.Numbers.{leF64, doublesAt}
 use Rattle.format.specs.Order.{first, fieldsFrom}
 use Rattle.format.specs.Said.{Said, gives, short}
 use Rattle.format.specs.Shapes.{Parts, parted, there, PartsOf}
-use Rattle.readback.specs.Held.{PartsHeld}
 use Rattle.format.proofs.OrderLaws.{fields-whole}
 use Rattle.multipart.specs.Answers.{Two, countsOf}
 use Rattle.multipart.specs.declared.Body.{Body}
 use Rattle.multipart.specs.Body.{partsIn, pointsIn, zAt, mAt, roomTests, bodyIn, bodyOf, countTests, partTests, differencesIn, pairsAt, measureTests, restTests}
 use Rattle.multipart.specs.Walks.{Passes}
 use Rattle.multipart.proofs.TestLaws.{first-append}
-use Rattle.readback.proofs.Held.{held-fit}
 use Rattle.meaning.proofs.Laid.{boxDoubles}
+use Rattle.readback.specs.Held.{PartsHeld}
 use Rattle.readback.specs.ReadBack.{Small, value, bodyOfParts, Roomy}
 use Rattle.readback.proofs.Counts.{parts-pass}
+use Rattle.readback.proofs.Held.{held-fit}
 use Rattle.readback.proofs.InParts.{bytes, parts, points, pairsPlace, zPlace, mPlace, size, points-held, at-box, at-z, at-m, parts-is, number-is, differences-are, points-are, pairs-place, z-place, m-place}
 use Rattle.readback.proofs.Measures.{range-back}
 use Rattle.readback.proofs.Numbers.{doubles-back}

@@ -15,19 +15,19 @@ use Rattle.format.specs.Encoding.{startsFrom, shapeBytes, shapeWords}
 use Rattle.format.specs.Numbers.{leI32}
 use Rattle.format.specs.Shapes.{Parts, parted, there, PartsOf}
 use Rattle.format.specs.WellFormed.{coordinates}
-use Rattle.readback.specs.Held.{PartsHeld}
 use Rattle.format.proofs.ByteLaws.{length-leBytes}
 use Rattle.multipart.specs.Body.{differencesIn, countsIn, pointsIn, pairsAt, zAt, mAt, raised, xyIn, zIn, mIn}
 use Rattle.multipart.specs.Parts.{countOf, startsAt}
 use Rattle.meaning.proofs.Cuts.{length-startsFrom, fit-starts}
 use Rattle.meaning.proofs.Doubles.{measured, count, writeIf}
-use Rattle.readback.proofs.Held.{held-fit}
 use Rattle.meaning.proofs.Laid.{parts-words, boxDoubles, partsDoubles, parts-laid, length-shape}
 use Rattle.meaning.proofs.Pairs.{length-coordinates}
 use Rattle.meaning.proofs.Places.{Stands, all-behind, front, back}
 use Rattle.meaning.proofs.Runs.{run, run-append, length-run, numbers-back}
+use Rattle.readback.specs.Held.{PartsHeld}
 use Rattle.readback.specs.ReadBack.{Small, countsOfParts, xyOfParts, valuesOf}
 use Rattle.readback.proofs.Counts.{lengths, starts-held, differences-back, counts-back, sum-back}
+use Rattle.readback.proofs.Held.{held-fit}
 use Rattle.readback.proofs.Measures.{laid, length-laid, values-back, map-cond}
 use Rattle.readback.proofs.Numbers.{i32-back, starts-are, doubles-back}
 

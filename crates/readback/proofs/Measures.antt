@@ -10,14 +10,14 @@ use lib.ListN.{length}
 use Rattle.format.specs.Bytes.{leBytes}
 use Rattle.format.specs.Numbers.{doublesAt}
 use Rattle.format.specs.Shapes.{Measure, there, Covers}
-use Rattle.readback.specs.Held.{measureHeld}
 use Rattle.format.proofs.ByteLaws.{length-leBytes}
 use Rattle.multipart.specs.Body.{rangeAt, noRange}
 use Rattle.meaning.proofs.Doubles.{measured, writeIf}
-use Rattle.readback.proofs.Held.{held-fit}
 use Rattle.meaning.proofs.Places.{Stands, front, back}
 use Rattle.meaning.proofs.Runs.{run, run-append, length-run}
+use Rattle.readback.specs.Held.{measureHeld}
 use Rattle.readback.specs.ReadBack.{rangeOf, valuesOf}
+use Rattle.readback.proofs.Held.{held-fit}
 use Rattle.readback.proofs.Numbers.{double-back, doubles-back}
 
 -- its bytes

@@ -17,7 +17,6 @@ use Rattle.format.specs.Lengths.{onePoint, contentWords}
 use Rattle.format.specs.Numbers.{leF64, doublesAt}
 use Rattle.format.specs.Said.{gives, short}
 use Rattle.format.specs.Shapes.{Point, point, there, PointOf}
-use Rattle.readback.specs.Held.{PointHeld, valueHeld}
 use Rattle.format.proofs.ByteLaws.{length-leBytes}
 use Rattle.format.proofs.OrderLaws.{fields-whole}
 use Rattle.record.specs.Reading.{pointOf, pointIn, pointShape, doublesOf}
@@ -28,6 +27,7 @@ use Rattle.meaning.proofs.Laid.{point-words, point-laid}
 use Rattle.meaning.proofs.Places.{Stands, all-behind, front, back}
 use Rattle.meaning.proofs.Record.{length-content}
 use Rattle.meaning.proofs.Runs.{run, run-append, length-run}
+use Rattle.readback.specs.Held.{PointHeld, valueHeld}
 use Rattle.readback.specs.ReadBack.{value, valueOr, shapedAs, size}
 use Rattle.readback.proofs.Contents.{behind, code-back}
 use Rattle.readback.proofs.Numbers.{double-back, doubles-back}

@@ -6,10 +6,10 @@ use Rattle.format.specs.declared.kinds.Kind.{Kind}
 use Rattle.format.specs.Encoding.{content, shapeWords}
 use Rattle.format.specs.Said.{gives}
 use Rattle.format.specs.Shapes.{Parts, null, point, parted, there, PartsOf}
-use Rattle.readback.specs.Held.{PartsHeld}
 use Rattle.record.specs.Reading.{hasM, sizeRight, partsOf}
 use Rattle.rules.specs.Meaning.{TakenKind}
 use Rattle.meaning.proofs.Decode.{if-only}
+use Rattle.readback.specs.Held.{PartsHeld}
 use Rattle.readback.specs.ReadBack.{Small, shapedAs, size, Roomy, ReadsBack, StoresBack}
 use Rattle.readback.proofs.Bodies.{two, counts-said, body-said}
 use Rattle.readback.proofs.Contents.{behind, code-back, kind-back, read-as}
