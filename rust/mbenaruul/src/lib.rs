@@ -1,0 +1,72 @@
+//! Shapefiles (.shp with .shx) read, written and checked.
+//!
+//! The work is done by a library that is written in Rattle and proved function by function; this
+//! crate hands slices to it and gives vectors back. Every function here may be called with any
+//! bytes and any numbers. What is refused comes back as an [`Error`].
+//!
+//! | to | call |
+//! |---|---|
+//! | ask whether two files are a pair | [`check_pair`], or [`Verdict::of`] for the line to print |
+//! | read the records of a pair | [`Plan::check`], then [`Plan::record`] or [`Plan::records`] |
+//! | write a pair | [`Writer`] |
+//! | read a header, an index entry or a record by itself | [`read_header`], [`read_record_header`], [`read_index_entry`], [`read_record`] |
+//! | test or close rings | [`is_part_closed`], [`close_points_if_not_already`], [`ring_type_from_points_ordering`] |
+//!
+//! A plan of two shelf runs, written and checked; then two entries of its index are exchanged,
+//! which other readers do not notice:
+//!
+//! ```
+//! use mbenaruul::{check_pair, kind, BBoxZ, Error, Plan, Record, Tables, Writer};
+//!
+//! # fn main() -> Result<(), Error> {
+//! let mut writer = Writer::new();
+//! for y in [0.0, 4.0] {
+//!     writer.add(&Tables {
+//!         kind: kind::POLYLINE,
+//!         bbox: BBoxZ { xmin: 0.0, ymin: y, xmax: 9.0, ymax: y, ..BBoxZ::default() },
+//!         counts: &[2], // one part of two points
+//!         xy: &[0.0, y, 9.0, y],
+//!         ..Tables::default()
+//!     })?;
+//! }
+//! let (shp, mut shx) = writer.finish()?;
+//!
+//! let plan = Plan::check(&shp, &shx)?;
+//! assert_eq!(plan.totals().to_string(), "records=2 parts=2 points=4");
+//! match plan.record(2) {
+//!     Some(Ok(Record::Parts(run))) => assert_eq!(run.xy, [0.0, 4.0, 9.0, 4.0]),
+//!     other => panic!("record 2 is a shelf run, and not {:?}", other),
+//! }
+//!
+//! let (first, second) = shx[100..116].split_at_mut(8);
+//! first.swap_with_slice(second);
+//! assert_eq!(check_pair(&shp, &shx), Err(Error::Fault { rule: 11, record: 1 }));
+//! # Ok(())
+//! # }
+//! ```
+//!
+//! Kinds are the codes that stand in files, by name in [`kind`].
+
+#![deny(missing_docs)]
+#![deny(unsafe_code)]
+
+mod error;
+mod ffi;
+mod header;
+pub mod kind;
+mod pair;
+mod record;
+mod rings;
+mod writer;
+
+pub use error::Error;
+pub use header::{
+    read_header, read_index_entry, read_record_header, BBoxZ, Bytes, Header, IndexEntry,
+    RecordHeader, Words,
+};
+pub use pair::{check_pair, Plan, Totals, Verdict};
+pub use record::{read_record, BBox, Range, Record, Shape};
+pub use rings::{
+    close_points_if_not_already, is_part_closed, ring_type_from_points_ordering, RingType,
+};
+pub use writer::{Tables, Writer};

@@ -1,0 +1,185 @@
+//! Writing a pair, record by record.
+
+use crate::error::Error;
+use crate::ffi;
+use crate::header::BBoxZ;
+use crate::kind;
+use crate::record::Record;
+use std::slice;
+
+/// A shape to write, in flat tables. The part counts sum to the number of points, n; xy holds 2n
+/// doubles; z and m hold n where the kind has them, else none. A point kind has no parts and n is
+/// 1.
+#[derive(Debug, Clone, Copy, Default, PartialEq)]
+pub struct Tables<'a> {
+    /// The kind's code: any of [`kind`](crate::kind) but Null.
+    pub kind: i32,
+    /// The shape's box and ranges, which are written as given. A point has none: its own values
+    /// count.
+    pub bbox: BBoxZ,
+    /// The number of points of each part.
+    pub counts: &'a [u32],
+    /// The points: x0 y0 x1 y1 ..
+    pub xy: &'a [f64],
+    /// One z for each point.
+    pub z: &'a [f64],
+    /// One m for each point.
+    pub m: &'a [f64],
+}
+
+/// The two files of a pair, while records are added. All records have the kind of the first.
+/// A clone can be finished halfway.
+#[derive(Debug, Clone)]
+pub struct Writer {
+    state: ffi::State,
+    /// Both files, with a hundred bytes in front for a header.
+    shp: Vec<u8>,
+    shx: Vec<u8>,
+}
+
+impl Default for Writer {
+    fn default() -> Writer {
+        Writer::new()
+    }
+}
+
+impl Writer {
+    /// A pair without a record.
+    pub fn new() -> Writer {
+        Writer {
+            state: ffi::new(),
+            shp: vec![0; 100],
+            shx: vec![0; 100],
+        }
+    }
+
+    /// Adds a shape as the next record. Refusals, which leave the writer as it was: 4, 9, 5, 10,
+    /// 7.
+    pub fn add(&mut self, tables: &Tables<'_>) -> Result<(), Error> {
+        let before = self.shp.len();
+        let after = self.bytes_with(tables)?;
+        self.shp.resize(after, 0);
+        let mut entry = [0; 8];
+        let added = ffi::add_record(self.state, tables, &mut self.shp, before, &mut entry);
+        if let Err(refused) = added.refusal.into_result() {
+            panic!("the library refused a record for which it had asked the room: {refused}");
+        }
+        self.shx.extend(entry);
+        self.state = added.state;
+        Ok(())
+    }
+
+    /// Adds what was read as the next record. Refusals as those of [`add`](Writer::add); a Null
+    /// record is 9.
+    pub fn add_record(&mut self, record: &Record) -> Result<(), Error> {
+        match record {
+            Record::Null => self.add(&Tables {
+                kind: kind::NULL,
+                ..Tables::default()
+            }),
+            Record::Point { kind, x, y, z, m } => self.add(&Tables {
+                kind: *kind,
+                xy: &[*x, *y],
+                z: z.as_ref().map_or(&[], slice::from_ref),
+                m: m.as_ref().map_or(&[], slice::from_ref),
+                ..Tables::default()
+            }),
+            Record::Parts(shape) => self.add(&shape.tables()),
+        }
+    }
+
+    /// The .shp and the .shx, whole. A writer of this crate is never refused.
+    pub fn finish(mut self) -> Result<(Vec<u8>, Vec<u8>), Error> {
+        let finished = ffi::finish(self.state);
+        finished.refusal.into_result()?;
+        self.shp[..100].copy_from_slice(&finished.shp);
+        self.shx[..100].copy_from_slice(&finished.shx);
+        Ok((self.shp, self.shx))
+    }
+
+    /// How many bytes the .shp has with one more record: what the library says when it is lent an
+    /// empty output, since it judges the room last.
+    fn bytes_with(&self, tables: &Tables<'_>) -> Result<usize, Error> {
+        let asked = ffi::add_record(self.state, tables, &mut [], self.shp.len(), &mut []);
+        match asked.refusal.into_result() {
+            Err(Error::Room { first: bytes, .. }) => Ok(bytes),
+            Err(refused) => Err(refused),
+            Ok(()) => panic!("the library wrote a record into no room"),
+        }
+    }
+}
+
+#[cfg(test)]
+mod tests {
+    use super::*;
+
+    const SEGMENT: Tables<'_> = Tables {
+        kind: kind::POLYLINE,
+        bbox: BBoxZ {
+            xmin: 0.0,
+            ymin: 0.0,
+            xmax: 1.0,
+            ymax: 1.0,
+            zmin: 0.0,
+            zmax: 0.0,
+            mmin: 0.0,
+            mmax: 0.0,
+        },
+        counts: &[2],
+        xy: &[0.0, 0.0, 1.0, 1.0],
+        z: &[],
+        m: &[],
+    };
+
+    /// A writer after so many words, which would be four gigabytes to write in earnest.
+    fn writer_at(words: i32) -> Writer {
+        let mut writer = Writer::new();
+        writer.add(&SEGMENT).unwrap();
+        writer.state.words = words;
+        writer
+    }
+
+    #[test]
+    fn a_file_of_more_words_than_its_header_holds_is_long() {
+        // a segment takes 44 words
+        let mut fits = writer_at(i32::MAX - 44);
+        assert_eq!(fits.add(&SEGMENT), Ok(()));
+        assert_eq!(fits.state.words, i32::MAX);
+        let mut long = writer_at(i32::MAX - 43);
+        assert_eq!(long.add(&SEGMENT), Err(Error::Long));
+    }
+
+    #[test]
+    fn no_state_of_a_writer_is_refused_with_3() {
+        let mut writer = writer_at(49);
+        assert_eq!(writer.add(&SEGMENT), Err(Error::Size { at: 0 }));
+        assert_eq!(writer.finish().unwrap_err(), Error::Size { at: 0 });
+    }
+
+    #[test]
+    fn a_refusal_leaves_the_writer_as_it_was() {
+        let mut writer = Writer::new();
+        writer.add(&SEGMENT).unwrap();
+        let before = writer.clone();
+        let refused = [
+            Tables { kind: 2, ..SEGMENT },
+            Tables {
+                kind: kind::NULL,
+                ..SEGMENT
+            },
+            Tables {
+                kind: kind::POLYGON,
+                ..SEGMENT
+            },
+            Tables {
+                counts: &[3],
+                ..SEGMENT
+            },
+        ];
+        for tables in &refused {
+            assert!(writer.add(tables).is_err());
+            assert_eq!(writer.state, before.state);
+            assert_eq!((&writer.shp, &writer.shx), (&before.shp, &before.shx));
+        }
+    }
+}

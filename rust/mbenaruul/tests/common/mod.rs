@@ -1,0 +1,201 @@
+//! What several tests share: the kinds, numbers that look random and are the same in each run,
+//! records of every kind, and files field by field.
+
+// Each test file is a program of its own and uses a part of this.
+#![allow(dead_code)]
+
+use mbenaruul::{BBox, Plan, Range, Record, Shape, Totals, Writer};
+
+/// The nine kinds that can be written.
+pub const KINDS: [i32; 9] = [1, 21, 11, 3, 23, 13, 5, 25, 15];
+
+pub fn has_z(kind: i32) -> bool {
+    [11, 13, 15].contains(&kind)
+}
+
+pub fn has_m(kind: i32) -> bool {
+    [21, 23, 25].contains(&kind) || has_z(kind)
+}
+
+pub fn is_point(kind: i32) -> bool {
+    [1, 21, 11].contains(&kind)
+}
+
+pub fn is_polygon(kind: i32) -> bool {
+    [5, 25, 15].contains(&kind)
+}
+
+/// Marsaglia's xorshift.
+pub struct Random(u64);
+
+impl Random {
+    pub fn new(seed: u64) -> Random {
+        Random(seed.wrapping_mul(0x9e37_79b9_7f4a_7c15) | 1)
+    }
+
+    pub fn next(&mut self) -> u64 {
+        self.0 ^= self.0 << 13;
+        self.0 ^= self.0 >> 7;
+        self.0 ^= self.0 << 17;
+        self.0
+    }
+
+    pub fn below(&mut self, n: usize) -> usize {
+        (self.next() % n as u64) as usize
+    }
+
+    /// A coordinate: of any size now and then, else a small one.
+    pub fn double(&mut self) -> f64 {
+        let any = f64::from_bits(self.next());
+        if any.is_finite() && any.abs() < 1e30 && self.below(4) == 0 {
+            any
+        } else {
+            (self.below(2_000_001) as f64 - 1e6) / 64.0
+        }
+    }
+
+    pub fn doubles(&mut self, n: usize) -> Vec<f64> {
+        (0..n).map(|_| self.double()).collect()
+    }
+
+    pub fn range(&mut self) -> Range {
+        Range {
+            low: self.double(),
+            high: self.double(),
+        }
+    }
+}
+
+/// A well-formed record of a kind.
+pub fn record(kind: i32, random: &mut Random) -> Record {
+    if is_point(kind) {
+        Record::Point {
+            kind,
+            x: random.double(),
+            y: random.double(),
+            z: has_z(kind).then(|| random.double()),
+            m: has_m(kind).then(|| random.double()),
+        }
+    } else {
+        Record::Parts(shape(kind, random))
+    }
+}
+
+fn shape(kind: i32, random: &mut Random) -> Shape {
+    let mut counts = Vec::new();
+    let mut xy = Vec::new();
+    for _ in 0..1 + random.below(3) {
+        let least = if is_polygon(kind) { 4 } else { 2 };
+        let points = least + random.below(4);
+        let mut part = random.doubles(2 * points);
+        if is_polygon(kind) {
+            part.copy_within(..2, 2 * points - 2);
+        }
+        counts.push(points as u32);
+        xy.extend(part);
+    }
+    let points = xy.len() / 2;
+    Shape {
+        kind,
+        bbox: BBox {
+            xmin: random.double(),
+            ymin: random.double(),
+            xmax: random.double(),
+            ymax: random.double(),
+        },
+        z_range: has_z(kind).then(|| random.range()),
+        m_range: has_m(kind).then(|| random.range()),
+        counts,
+        xy,
+        z: random.doubles(if has_z(kind) { points } else { 0 }),
+        m: random.doubles(if has_m(kind) { points } else { 0 }),
+    }
+}
+
+/// What the checker has to count in these records.
+pub fn totals(records: &[Record]) -> Totals {
+    let mut totals = Totals {
+        records: records.len(),
+        parts: 0,
+        points: 0,
+    };
+    for record in records {
+        match record {
+            Record::Null => {}
+            Record::Point { .. } => totals.points += 1,
+            Record::Parts(shape) => {
+                totals.parts += shape.counts.len();
+                totals.points += shape.xy.len() / 2;
+            }
+        }
+    }
+    totals
+}
+
+/// All records of a plan, which must all be readable.
+pub fn read_all(plan: &Plan<'_>) -> Vec<Record> {
+    plan.records()
+        .map(|r| r.expect("a record of an accepted pair"))
+        .collect()
+}
+
+/// Whether the parts are all points in turn. By bits: a double that was read may be a NaN.
+pub fn is_divided(record: &Record) -> bool {
+    match record {
+        Record::Parts(shape) => {
+            let points = |part: &[f64]| part.len() as u32 / 2;
+            let bits = |double: &f64| double.to_bits();
+            shape.parts().map(points).eq(shape.counts.iter().copied())
+                && shape
+                    .parts()
+                    .flatten()
+                    .map(bits)
+                    .eq(shape.xy.iter().map(bits))
+        }
+        _ => true,
+    }
+}
+
+/// The two files of these records.
+pub fn written(records: &[Record]) -> (Vec<u8>, Vec<u8>) {
+    let mut writer = Writer::new();
+    for record in records {
+        writer.add_record(record).expect("a well-formed record");
+    }
+    writer.finish().expect("a writer")
+}
+
+/// A parts record's content, field by field: kind, box, counts, starts, then the doubles.
+pub fn content(kind: i32, p: i32, n: i32, starts: &[i32], doubles: &[f64]) -> Vec<u8> {
+    let mut bytes = kind.to_le_bytes().to_vec();
+    for side in [1.0f64, 2.0, 3.0, 4.0] {
+        bytes.extend(side.to_le_bytes());
+    }
+    for number in [p, n].iter().chain(starts) {
+        bytes.extend(number.to_le_bytes());
+    }
+    for double in doubles {
+        bytes.extend(double.to_le_bytes());
+    }
+    bytes
+}
+
+/// A header, field by field.
+pub fn header(code: i32, words: i32, kind: i32) -> Vec<u8> {
+    let mut bytes = code.to_be_bytes().to_vec();
+    bytes.extend([0; 20]);
+    bytes.extend(words.to_be_bytes());
+    bytes.extend(1000i32.to_le_bytes());
+    bytes.extend(kind.to_le_bytes());
+    for side in [1.0f64, 2.0, 3.0, 4.0, 5.0, 6.0, 7.0, 8.0] {
+        bytes.extend(side.to_le_bytes());
+    }
+    bytes
+}
+
+/// Exchanges two entries of an index; records are counted from 1.
+pub fn exchange(shx: &mut [u8], one: usize, other: usize) {
+    for i in 0..8 {
+        shx.swap(100 + 8 * (one - 1) + i, 100 + 8 * (other - 1) + i);
+    }
+}

@@ -1,0 +1,177 @@
+//! Bytes and numbers that were made to do harm: counts that the bytes do not hold, sizes at the ends
+//! of their range, nothing at all. No call takes more memory than twice what it was handed.
+
+mod common;
+
+use common::content;
+use mbenaruul::{
+    check_pair, close_points_if_not_already, is_part_closed, read_header, read_index_entry,
+    read_record, read_record_header, ring_type_from_points_ordering, Bytes, Error, Record, Tables,
+    Writer,
+};
+use std::alloc::{GlobalAlloc, Layout, System};
+use std::cell::Cell;
+
+/// Counts the bytes that each thread asks for.
+struct Counting;
+
+thread_local! {
+    static ASKED: Cell<usize> = const { Cell::new(0) };
+}
+
+unsafe impl GlobalAlloc for Counting {
+    unsafe fn alloc(&self, layout: Layout) -> *mut u8 {
+        ASKED.with(|asked| asked.set(asked.get() + layout.size()));
+        System.alloc(layout)
+    }
+
+    unsafe fn dealloc(&self, pointer: *mut u8, layout: Layout) {
+        System.dealloc(pointer, layout)
+    }
+}
+
+#[global_allocator]
+static COUNTING: Counting = Counting;
+
+/// A record read, with the memory that it took held to twice its content.
+fn read(content: &[u8], size: i64, wanted: Option<i32>) -> Result<Record, Error> {
+    let before = ASKED.with(Cell::get);
+    let read = read_record(content, Bytes(size), wanted);
+    let asked = ASKED.with(Cell::get) - before;
+    assert!(
+        asked <= 2 * content.len(),
+        "{asked} bytes for {}",
+        content.len()
+    );
+    read
+}
+
+#[test]
+fn the_memory_is_counted() {
+    let before = ASKED.with(Cell::get);
+    assert_eq!(vec![0u8; 1000].len(), 1000);
+    assert_eq!(ASKED.with(Cell::get) - before, 1000);
+}
+
+/// The size that a polyline's counts ask for.
+fn size(p: i64, n: i64) -> i64 {
+    2 * (22 + 2 * p + 8 * n)
+}
+
+#[test]
+fn counts_that_the_bytes_do_not_hold() {
+    // half a billion parts, and not one start
+    let parts = content(3, 500_000_000, 0, &[], &[]);
+    assert_eq!(
+        read(&parts, size(500_000_000, 0), None),
+        Err(Error::Short { at: 44 })
+    );
+    // a hundred million points, and not one pair
+    let points = content(3, 1, 100_000_000, &[0], &[]);
+    assert_eq!(
+        read(&points, size(1, 100_000_000), None),
+        Err(Error::Short { at: 48 })
+    );
+    // a part that starts far below 0 has more points than the count says
+    let below = content(3, 1, 5, &[-1_000_000_000], &[0.0; 10]);
+    assert_eq!(
+        read(&below, size(1, 5), None),
+        Err(Error::Short { at: 128 })
+    );
+    // no size fits these counts
+    let most = content(3, i32::MAX, i32::MAX, &[0], &[]);
+    for size in [
+        i64::MIN,
+        i64::from(i32::MIN),
+        0,
+        i64::from(i32::MAX),
+        i64::MAX,
+    ] {
+        assert_eq!(read(&most, size, None), Err(Error::Size { at: 0 }));
+    }
+}
+
+#[test]
+fn points_of_no_part_take_no_memory() {
+    let none = content(3, 0, 100_000_000, &[], &[]);
+    match read(&none, size(0, 100_000_000), None) {
+        Ok(Record::Parts(shape)) => assert!(shape.counts.is_empty() && shape.xy.is_empty()),
+        other => panic!("{other:?}"),
+    }
+}
+
+#[test]
+fn parts_of_no_point_take_four_bytes_each() {
+    let parts = content(3, 10_000, 0, &[0; 10_000], &[]);
+    match read(&parts, size(10_000, 0), None) {
+        Ok(Record::Parts(shape)) => assert_eq!(shape.counts, [0; 10_000]),
+        other => panic!("{other:?}"),
+    }
+}
+
+#[test]
+fn the_largest_shape_for_its_bytes_takes_twice_their_memory() {
+    let points = content(3, 1, 10_000, &[0], &[0.5; 20_000]);
+    match read(&points, size(1, 10_000), None) {
+        Ok(Record::Parts(shape)) => assert_eq!(shape.xy, [0.5; 20_000]),
+        other => panic!("{other:?}"),
+    }
+}
+
+#[test]
+fn every_size_and_wanted_kind_is_answered() {
+    let sizes = [
+        i64::MIN,
+        -2_147_483_649,
+        -1,
+        0,
+        3,
+        4,
+        44,
+        2_147_483_648,
+        i64::MAX,
+    ];
+    for kind in -2..40 {
+        for wanted in [None, Some(kind), Some(3), Some(i32::MIN), Some(i32::MAX)] {
+            for size in sizes {
+                let _ = read(&content(kind, 1, 2, &[0], &[0.0; 4]), size, wanted);
+                let _ = read(&content(kind, i32::MAX, i32::MIN, &[], &[]), size, wanted);
+                let _ = read(&kind.to_le_bytes(), size, wanted);
+            }
+        }
+    }
+}
+
+#[test]
+fn nothing_at_all_is_answered_by_every_call() {
+    let short = Error::Short { at: 0 };
+    assert_eq!(read_header(&[]), Err(short));
+    assert_eq!(read_record_header(&[]), Err(short));
+    assert_eq!(read_index_entry(&[]), Err(short));
+    assert_eq!(read(&[], 0, None), Err(short));
+    assert_eq!(read(&[], i64::MIN, Some(3)), Err(short));
+    assert_eq!(check_pair(&[], &[]).unwrap_err().number(), 8);
+    assert_eq!(is_part_closed(&[]), Ok(false));
+    assert!(ring_type_from_points_ordering(&[]).is_ok());
+    assert_eq!(close_points_if_not_already(Vec::new()), Ok(Vec::new()));
+    assert_eq!(
+        Writer::new().add(&Tables::default()),
+        Err(Error::NotTaken(0))
+    );
+    // a polyline without a part can be written, and no pair may hold it
+    let mut writer = Writer::new();
+    writer
+        .add(&Tables {
+            kind: 3,
+            ..Tables::default()
+        })
+        .unwrap();
+    let (shp, shx) = writer.finish().unwrap();
+    assert_eq!(
+        check_pair(&shp, &shx),
+        Err(Error::Fault {
+            rule: 14,
+            record: 1
+        })
+    );
+}

@@ -1,0 +1,296 @@
+//! Every refusal, asked for through the safe calls, with its number and values.
+
+mod common;
+
+use common::{content, header};
+use mbenaruul::{
+    check_pair, close_points_if_not_already, is_part_closed, read_header, read_index_entry,
+    read_record, read_record_header, ring_type_from_points_ordering, Bytes, Error, Tables, Writer,
+};
+
+/// A polyline of one part and two points, and its size: 40 words.
+fn segment() -> Vec<u8> {
+    content(3, 1, 2, &[0], &[0.0, 0.0, 1.0, 1.0])
+}
+
+const SEGMENT_SIZE: Bytes = Bytes(80);
+
+const SEGMENT: Tables<'_> = Tables {
+    kind: 3,
+    bbox: mbenaruul::BBoxZ {
+        xmin: 0.0,
+        ymin: 0.0,
+        xmax: 1.0,
+        ymax: 1.0,
+        zmin: 0.0,
+        zmax: 0.0,
+        mmin: 0.0,
+        mmax: 0.0,
+    },
+    counts: &[2],
+    xy: &[0.0, 0.0, 1.0, 1.0],
+    z: &[],
+    m: &[],
+};
+
+#[test]
+fn short_1_names_the_field_that_is_cut() {
+    let whole = header(9994, 50, 3);
+    let offsets = [
+        (0, 0),
+        (3, 0),
+        (4, 4),
+        (23, 4),
+        (27, 24),
+        (31, 28),
+        (35, 32),
+        (36, 36),
+        (99, 92),
+    ];
+    for (bytes, at) in offsets {
+        assert_eq!(read_header(&whole[..bytes]), Err(Error::Short { at }));
+    }
+    assert_eq!(read_record_header(&[]), Err(Error::Short { at: 0 }));
+    assert_eq!(read_record_header(&[0; 7]), Err(Error::Short { at: 4 }));
+    assert_eq!(read_index_entry(&[0; 3]), Err(Error::Short { at: 0 }));
+    assert_eq!(read_index_entry(&[0; 4]), Err(Error::Short { at: 4 }));
+}
+
+#[test]
+fn short_1_at_every_cut_of_a_record() {
+    let whole = segment();
+    for cut in 0..whole.len() {
+        let refused = read_record(&whole[..cut], SEGMENT_SIZE, None);
+        let at = match cut {
+            0..=3 => 0,
+            4..=35 => 4 + (cut - 4) / 8 * 8,
+            36..=47 => cut / 4 * 4,
+            _ => 48 + (cut - 48) / 8 * 8,
+        };
+        assert_eq!(refused, Err(Error::Short { at }), "cut at {cut}");
+    }
+    assert!(read_record(&whole, SEGMENT_SIZE, None).is_ok());
+}
+
+#[test]
+fn code_2_comes_before_a_cut() {
+    assert_eq!(read_header(&9995i32.to_be_bytes()), Err(Error::Code(9995)));
+    assert_eq!(
+        read_header(&(-9994i32).to_be_bytes()),
+        Err(Error::Code(-9994))
+    );
+    assert_eq!(
+        read_header(&header(i32::MIN, 50, 3)),
+        Err(Error::Code(i32::MIN))
+    );
+}
+
+#[test]
+fn size_3_of_a_header() {
+    assert_eq!(
+        read_header(&header(9994, -1, 3)),
+        Err(Error::Size { at: 24 })
+    );
+    assert!(read_header(&header(9994, 0, 3)).is_ok());
+}
+
+#[test]
+fn size_3_of_a_record() {
+    let at = |content: &[u8], size| read_record(content, Bytes(size), None);
+    for size in [
+        i64::MIN,
+        i64::from(i32::MIN),
+        -1,
+        0,
+        79,
+        81,
+        i64::from(i32::MAX),
+        i64::MAX,
+    ] {
+        assert_eq!(
+            at(&segment(), size),
+            Err(Error::Size { at: 0 }),
+            "size {size}"
+        );
+    }
+    assert_eq!(
+        at(&content(3, -1, 2, &[], &[]), 80),
+        Err(Error::Size { at: 36 })
+    );
+    assert_eq!(
+        at(&content(3, 1, -2, &[0], &[]), 80),
+        Err(Error::Size { at: 40 })
+    );
+    // starts 0, 4, 2 of 5 points: the second part has -2
+    let falls = content(3, 3, 5, &[0, 4, 2], &[0.0; 10]);
+    assert_eq!(at(&falls, 2 * (22 + 6 + 40)), Err(Error::Size { at: 48 }));
+    let point = [1i32.to_le_bytes().to_vec(), vec![0; 16]].concat();
+    assert_eq!(at(&point, 24), Err(Error::Size { at: 0 }));
+    assert!(at(&point, 20).is_ok());
+}
+
+#[test]
+fn unknown_4() {
+    assert_eq!(read_header(&header(9994, 50, 2)), Err(Error::Unknown(2)));
+    assert_eq!(read_header(&header(9994, 50, -1)), Err(Error::Unknown(-1)));
+    assert_eq!(
+        read_record(&2i32.to_le_bytes(), Bytes(4), None),
+        Err(Error::Unknown(2))
+    );
+    assert_eq!(
+        read_record(&segment(), SEGMENT_SIZE, Some(-3)),
+        Err(Error::Unknown(-3))
+    );
+    let add = |kind| Writer::new().add(&Tables { kind, ..SEGMENT });
+    assert_eq!(add(2), Err(Error::Unknown(2)));
+    assert_eq!(add(i32::MIN), Err(Error::Unknown(i32::MIN)));
+}
+
+#[test]
+fn mismatch_5() {
+    let read = |wanted| read_record(&segment(), SEGMENT_SIZE, Some(wanted));
+    assert!(read(3).is_ok());
+    assert_eq!(
+        read(5),
+        Err(Error::Mismatch {
+            wanted: 5,
+            found: 3
+        })
+    );
+    let mut writer = Writer::new();
+    writer.add(&SEGMENT).unwrap();
+    let other = writer.add(&Tables { kind: 5, ..SEGMENT });
+    assert_eq!(
+        other,
+        Err(Error::Mismatch {
+            wanted: 3,
+            found: 5
+        })
+    );
+}
+
+#[test]
+fn fault_8() {
+    assert_eq!(
+        check_pair(&[], &[]),
+        Err(Error::Fault { rule: 1, record: 0 })
+    );
+    let shp = header(9994, 50, 3);
+    assert_eq!(
+        check_pair(&shp, &shp[..99]),
+        Err(Error::Fault { rule: 2, record: 0 })
+    );
+    let mut shx = header(9994, 54, 3);
+    shx.extend([0; 8]);
+    assert_eq!(
+        check_pair(&shp, &shx),
+        Err(Error::Fault {
+            rule: 17,
+            record: 1
+        })
+    );
+    assert!(check_pair(&shp, &shp).is_ok());
+}
+
+#[test]
+fn not_taken_9() {
+    for kind in [8, 18, 28, 31] {
+        assert!(read_header(&header(9994, 50, kind)).is_ok());
+        let refused = Err(Error::NotTaken(kind));
+        assert_eq!(read_record(&kind.to_le_bytes(), Bytes(80), None), refused);
+        assert_eq!(read_record(&segment(), SEGMENT_SIZE, Some(kind)), refused);
+    }
+    assert_eq!(
+        read_record(&segment(), SEGMENT_SIZE, Some(0)),
+        Err(Error::NotTaken(0))
+    );
+    for kind in [0, 8, 18, 28, 31] {
+        let added = Writer::new().add(&Tables { kind, ..SEGMENT });
+        assert_eq!(added, Err(Error::NotTaken(kind)));
+    }
+}
+
+#[test]
+fn tables_10_of_a_run_of_points() {
+    assert_eq!(is_part_closed(&[0.0]), Err(Error::Tables));
+    assert_eq!(
+        ring_type_from_points_ordering(&[0.0; 3]),
+        Err(Error::Tables)
+    );
+    assert_eq!(
+        close_points_if_not_already(vec![0.0; 5]),
+        Err(Error::Tables)
+    );
+}
+
+#[test]
+fn tables_10_of_a_shape() {
+    let point = Tables {
+        kind: 1,
+        counts: &[],
+        xy: &[1.0, 2.0],
+        ..SEGMENT
+    };
+    assert_eq!(Writer::new().add(&point), Ok(()));
+    let wrong = [
+        Tables {
+            counts: &[],
+            ..SEGMENT
+        },
+        Tables {
+            counts: &[3],
+            ..SEGMENT
+        },
+        Tables {
+            counts: &[1, 2],
+            ..SEGMENT
+        },
+        Tables {
+            counts: &[u32::MAX, u32::MAX],
+            ..SEGMENT
+        },
+        Tables {
+            xy: &[0.0, 0.0, 1.0],
+            ..SEGMENT
+        },
+        Tables {
+            z: &[0.0, 0.0],
+            ..SEGMENT
+        },
+        Tables {
+            m: &[0.0],
+            ..SEGMENT
+        },
+        Tables {
+            kind: 23,
+            ..SEGMENT
+        },
+        Tables {
+            kind: 13,
+            m: &[0.0, 0.0],
+            ..SEGMENT
+        },
+        Tables {
+            kind: 13,
+            z: &[0.0, 0.0],
+            ..SEGMENT
+        },
+        Tables {
+            counts: &[1],
+            ..point
+        },
+        Tables {
+            xy: &[1.0, 2.0, 3.0, 4.0],
+            ..point
+        },
+        Tables { kind: 21, ..point },
+        Tables {
+            kind: 11,
+            z: &[0.0],
+            ..point
+        },
+    ];
+    for tables in &wrong {
+        assert_eq!(Writer::new().add(tables), Err(Error::Tables), "{tables:?}");
+    }
+}
