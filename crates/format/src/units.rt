@@ -3,6 +3,7 @@ ghost use mathlib.Core.Path.{_≡_};
 ghost use Rattle.format.specs.Units.{inBytes, inWords};
 
 // A length in 16-bit words.
+#[repr(C)]
 pub struct Words(pub i32);
 
 // A length in bytes.

@@ -6,6 +6,7 @@ ghost use lib.Seq.{sets};
 ghost use Rattle.format.specs.Numbers.{f64sLe};
 ghost use Rattle.header.specs.Box.{boxAt, boxList};
 
+#[repr(C)]
 pub struct BBoxZ {
     pub xmin: f64,
     pub ymin: f64,

@@ -6,12 +6,14 @@ ghost use Rattle.header.specs.Entries.{twoOf, recordHeader, shapeIndex, 
 use format::units::Words;
 
 // In front of each record: its number from 1, and how long its content is.
+#[repr(C)]
 pub struct RecordHeader {
     pub record_number: i32,
     pub content_length: Words,
 }
 
 // In the .shx: where the record starts, and how long its content is.
+#[repr(C)]
 pub struct ShapeIndex {
     pub offset: Words,
     pub content_length: Words,

@@ -9,6 +9,7 @@ use format::units::Words;
 pub mod bbox;
 pub mod entries;
 
+#[repr(C)]
 pub struct Header {
     pub file_length: Words,
     pub version: i32,

@@ -7,6 +7,7 @@ use judge::Walk;
 mod judge;
 mod store;
 
+#[repr(C)]
 pub struct BBox {
     pub xmin: f64,
     pub ymin: f64,
@@ -14,12 +15,14 @@ pub struct BBox {
     pub ymax: f64,
 }
 
+#[repr(C)]
 pub struct Range {
     pub low: f64,
     pub high: f64,
 }
 
 // What a body holds beside what goes into the stores.
+#[repr(C)]
 pub struct Body {
     pub bbox: BBox,
     pub z_range: Range,

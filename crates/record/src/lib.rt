@@ -21,6 +21,7 @@ pub enum Wanted {
 }
 
 // A point of one of the three point kinds; 0 for a z or m that its kind does not have.
+#[repr(C)]
 pub struct Point {
     pub x: f64,
     pub y: f64,

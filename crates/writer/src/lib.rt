@@ -12,6 +12,7 @@ mod record;
 pub mod states;
 
 // The words written so far, the next record's number, the kind's code and the header's box.
+#[repr(C)]
 pub struct State {
     pub words: Words,
     pub number: i32,

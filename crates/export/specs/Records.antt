@@ -1,0 +1,74 @@
+-- A record read: the refusal, the shape, and what the stores then hold.
+use mathlib.Core.Path.{_≡_}
+use mathlib.Core.Bool.{Bool, cond}
+use mathlib.Core.List.{List}
+use Prim.Native.Nat.{ℕ}
+use lib.Ieee.{Float}
+use lib.IntN.{ℤ, pos}
+use lib.ListN.{length, drop}
+use lib.Seq.{sets}
+use Rattle.format.specs.declared.units.Bytes.{Bytes}
+use Rattle.format.specs.Said.{Said, gives, refuses}
+use Rattle.multipart.specs.declared.Body.{Body}
+use Rattle.multipart.specs.Body.{noRange, countsIn, xyIn, zIn, mIn}
+use Rattle.record.specs.declared.Point.{Point}
+use Rattle.record.specs.declared.Wanted.{Wanted}
+use Rattle.record.specs.Reading.{Shaped, nullShape, pointShape, partsShape, codeIn, kindAt, kindOr, recordOf}
+use Rattle.writer.specs.Boxes.{zero}
+use Rattle.export.specs.declared.records.RecordRead.{RecordRead}
+use Rattle.export.specs.declared.refusals.Refusal.{Refusal}
+use Rattle.export.specs.Refusals.{refusalOf, orElse}
+
+-- ---- the shape as a struct
+
+abbrev pub zeroPoint : Point
+zeroPoint = record { x = zero; y = zero; z = zero; m = zero }
+
+abbrev pub zeroBody : Body
+zeroBody =
+    record {
+      bbox = record { xmin = zero; ymin = zero; xmax = zero; ymax = zero };
+      «z_range» = noRange;
+      «m_range» = noRange;
+      parts = 0;
+      points = 0;
+    }
+
+-- the form is 0 for Null, 1 for a point and 2 for parts; what a form does not have is zeros
+abbrev pub shapeRead : Refusal → Shaped → RecordRead
+shapeRead refusal nullShape =
+    record { refusal = refusal; code = pos 0; form = 0; «has_m» = 0; point = zeroPoint; body = zeroBody }
+shapeRead refusal (pointShape code point) =
+    record { refusal = refusal; code = code; form = 1; «has_m» = 0; point = point; body = zeroBody }
+shapeRead refusal (partsShape code m body) =
+    record { refusal = refusal; code = code; form = 2; «has_m» = cond m 1 0; point = zeroPoint; body = body }
+
+-- a refusal has the zeros of a Null record
+abbrev pub recordRead : Said Shaped → RecordRead
+recordRead said = shapeRead (refusalOf said) (orElse nullShape said)
+
+-- ---- the call
+
+abbrev pub asBytes : ℤ → Bytes
+asBytes size = record { 0 = size }
+
+-- what goes into a store: only a shape with parts has any
+abbrev pub stored : {A : Type 0} → Said Shaped → List A → (Bool → List A) → List A
+stored (gives nullShape) store values = store
+stored (gives (pointShape code point)) store values = store
+stored (gives (partsShape code m body)) store values = sets store 0 (values m)
+stored (refuses n said) store values = store
+
+-- what reading says, with these stores
+abbrev pub saidOf : Wanted → ℤ → List ℕ → List ℕ → List Float → List Float → List Float → Said Shaped
+saidOf wanted size s counts xy zs ms = recordOf wanted (asBytes size) s (length counts) (length xy) (length zs) (length ms)
+
+abbrev pub hasZ : List ℕ → Bool
+hasZ s = kindOr (kindAt (codeIn s)) .z
+
+pub record Reads (wanted : Wanted) (size : ℤ) (s counts : List ℕ) (xy zs ms : List Float) (r : RecordRead) (counts′ : List ℕ) (xy′ zs′ ms′ : List Float) : Type 0 where
+  pub answer-is : r ≡ recordRead (saidOf wanted size s counts xy zs ms)
+  pub counts-are : counts′ ≡ stored (saidOf wanted size s counts xy zs ms) counts (λ m. countsIn (drop 4 s))
+  pub xy-are : xy′ ≡ stored (saidOf wanted size s counts xy zs ms) xy (λ m. xyIn (drop 4 s))
+  pub z-are : zs′ ≡ stored (saidOf wanted size s counts xy zs ms) zs (λ m. zIn (hasZ s) (drop 4 s))
+  pub m-are : ms′ ≡ stored (saidOf wanted size s counts xy zs ms) ms (λ m. mIn (hasZ s) m (drop 4 s))
