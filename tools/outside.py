@@ -1,7 +1,8 @@
 #!/usr/bin/env python3
-"""Has GDAL, shapelib and pyshp write pairs of every kind that each can write, into a folder.
+"""Has GDAL, shapelib and pyshp write pairs of every kind that each can write, into a folder; or with --large, a plan of 60,000 runs each by GDAL
+and pyshp, and GDAL's again with entries 12 and 31 of its index exchanged.
 
-    tools/outside.py FOLDER
+    tools/outside.py [--large] FOLDER
 
 Needs Debian's gdal-bin, libshp2 and python3-pyshp; run it with the system's python3. The files are not kept in the repository: what the checker
 says of them stands in docs/OUTSIDE.md.
@@ -9,6 +10,7 @@ says of them stands in docs/OUTSIDE.md.
 import ctypes
 import json
 import os
+import shutil
 import subprocess
 import sys
 
@@ -102,14 +104,47 @@ def pyshp(folder):
                 w.record("run %d" % k)
 
 
+def large_gdal(folder):
+    source = os.path.join(folder, "runs.csv")
+    with open(source, "w") as f:
+        f.write("WKT,n\n")
+        for i in range(60000):
+            x, y = i % 300, i // 300
+            f.write('"LINESTRING (%d %d,%d %d)",%d\n' % (x, y, x + 1, y, i))
+    plan = os.path.join(folder, "gdal_60000")
+    run("ogr2ogr", "-f", "ESRI Shapefile", plan + ".shp", source, "-oo", "KEEP_GEOM_COLUMNS=NO")
+    os.remove(source)
+    exchanged = os.path.join(folder, "exchanged")
+    shutil.copy(plan + ".shp", exchanged + ".shp")
+    with open(plan + ".shx", "rb") as f:
+        index = bytearray(f.read())
+    a, b = (100 + 8 * (k - 1) for k in (12, 31))
+    index[a:a + 8], index[b:b + 8] = index[b:b + 8], index[a:a + 8]
+    with open(exchanged + ".shx", "wb") as f:
+        f.write(index)
+
+
+def large_pyshp(folder):
+    import shapefile
+    with shapefile.Writer(os.path.join(folder, "pyshp_60000"), shapeType=shapefile.POLYLINEM) as w:
+        w.field("n", "N")
+        for i in range(60000):
+            x, y = i % 300, i // 300
+            w.linem([[[x, y, i], [x + 0.9, y, i + 1], [x + 0.9, y + 0.5, i + 2]]])
+            w.record(i)
+
+
 def main():
-    if len(sys.argv) != 2:
+    words = sys.argv[1:]
+    large = words[:1] == ["--large"]
+    if len(words) != 1 + large:
         print(__doc__.strip())
         return 2
-    os.makedirs(sys.argv[1], exist_ok=True)
-    for producer in (gdal, shapelib, pyshp):
+    folder = words[-1]
+    os.makedirs(folder, exist_ok=True)
+    for producer in (large_gdal, large_pyshp) if large else (gdal, shapelib, pyshp):
         try:
-            producer(sys.argv[1])
+            producer(folder)
         except (OSError, subprocess.SubprocessError, ImportError) as e:
             print("%s: %s" % (producer.__name__, e), file=sys.stderr)
             return 1
