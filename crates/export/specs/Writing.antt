@@ -13,6 +13,7 @@ use Rattle.writer.specs.State.{stateFine}
 use Rattle.export.specs.declared.refusals.Refusal.{Refusal}
 use Rattle.export.specs.declared.writing.Added.{Added}
 use Rattle.export.specs.declared.writing.Finished.{Finished}
+use Rattle.export.specs.declared.writing.Written.{Written}
 use Rattle.export.specs.Refusals.{refusalOf, orElse}
 
 -- ---- adding
@@ -24,6 +25,10 @@ notAdded refusal s = record { refusal = refusal; bytes = 0; state = s }
 -- the answer with the state after the call
 abbrev pub added : Said ℕ → State → Added
 added said s = record { refusal = refusalOf said; bytes = orElse 0 said; state = s }
+
+-- an answer where the state is lent, with that state after the call
+abbrev pub addedWith : Written → State → Added
+addedWith w s = record { refusal = w .refusal; bytes = w .bytes; state = s }
 
 -- what adding says, with these buffers
 abbrev pub saidOf : State → Lent → List ℕ → ℕ → List ℕ → Said ℕ

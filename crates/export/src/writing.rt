@@ -4,7 +4,7 @@ ghost use Rattle.writer.specs.Adding.{lent, saidAdd};
 ghost use Rattle.writer.specs.Finishing.{saidFinish};
 ghost use Rattle.writer.specs.State.{fresh};
 ghost use Rattle.export.specs.Refusals.{refusalOf};
-ghost use Rattle.export.specs.Writing.{notAdded, added, AddsRecord, finished};
+ghost use Rattle.export.specs.Writing.{notAdded, added, addedWith, AddsRecord, finished};
 use crate::refusals;
 use crate::refusals::Refusal;
 use header::bbox::BBoxZ;
@@ -18,6 +18,13 @@ pub struct Added {
     pub refusal: Refusal,
     pub bytes: usize,
     pub state: State,
+}
+
+// How many bytes the record took, where the state is lent.
+#[repr(C)]
+pub struct Written {
+    pub refusal: Refusal,
+    pub bytes: usize,
 }
 
 // Both headers; zeros, where there was no writer state.
@@ -90,6 +97,31 @@ pub extern "C" fn mbenaruul_add_record(
     let answer = r.answer;
     let after = r.state;
     add_answer(answer, after)
+}
+
+// The same over a state that is lent, and advanced by the call; a refusal leaves it as it is.
+#[no_mangle]
+pub extern "C" fn mbenaruul_write_shape(
+    state: &mut State,
+    code: i32,
+    bbox: BBoxZ,
+    counts: &[u32],
+    xy: &[f64],
+    z: &[f64],
+    m: &[f64],
+    out: &mut [u8],
+    start: usize,
+    entry: &mut [u8],
+) -> Written
+    ensures { λ r. ⌜ AddsRecord (now (state .entry)) (lent code bbox (now (counts .entry)) (now (xy .entry)) (now (z .entry)) (now (m .entry))) (now (out .entry)) start (now (entry .entry)) (addedWith r (now (state .exit))) (now (out .exit)) (now (entry .exit)) ⌝ }
+{
+    let s = *state;
+    let r = mbenaruul_add_record(s, code, bbox, counts, xy, z, m, out, start, entry);
+    *state = r.state;
+    Written {
+        refusal: r.refusal,
+        bytes: r.bytes,
+    }
 }
 
 fn finish_refusal(a: FinishAnswer) -> Refusal
