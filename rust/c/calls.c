@@ -1,0 +1,196 @@
+/* Every call of include/mbenaruul.h from C: that the structs lie as the library has them, what each call gives, and each refusal's number and values.
+ * Prints the checks that fail, and a line with their number. */
+#include <stdio.h>
+#include <string.h>
+
+#include "mbenaruul.h"
+
+static int checks = 0, failed = 0;
+
+static void check(int holds, int line, const char *what) {
+    checks++;
+    if (!holds) {
+        failed++;
+        printf("calls.c:%d: %s\n", line, what);
+    }
+}
+#define CHECK(x) check((x), __LINE__, #x)
+
+static int is(mbenaruul_refusal r, uint32_t number, uint64_t first, uint64_t second) {
+    return r.number == number && r.first == first && r.second == second;
+}
+
+static int same_state(mbenaruul_state a, mbenaruul_state b) {
+    return a.words == b.words && a.number == b.number && a.kind == b.kind && memcmp(&a.bbox, &b.bbox, sizeof a.bbox) == 0;
+}
+
+/* Nothing to lend still takes a pointer. */
+static double none[1];
+static uint32_t counts[] = {2};
+static double xy[] = {1, 2, 3, 4}, z[] = {10, 11}, m[] = {20, 21};
+static mbenaruul_bbox box = {1, 2, 3, 4, 5, 6, 7, 8};
+
+/* A polyline of two points, with as many coordinates and as much room as is said. */
+static mbenaruul_added add(mbenaruul_state s, int32_t code, size_t xy_n, uint8_t *out, size_t out_n, uint8_t *entry, size_t entry_n) {
+    return mbenaruul_add_record(s, code, box, counts, 1, xy, xy_n, none, 0, none, 0, out, out_n, 0, entry, entry_n);
+}
+
+/* The pair of one polyline of two points: 188 and 108 bytes. */
+static mbenaruul_state one_run(uint8_t *shp, uint8_t *shx) {
+    mbenaruul_added a = add(mbenaruul_new(), 3, 4, shp + 100, 88, shx + 100, 8);
+    mbenaruul_finished f = mbenaruul_finish(a.state);
+
+    CHECK(is(a.refusal, 0, 0, 0) && a.bytes == 88);
+    CHECK(a.state.words == 94 && a.state.number == 2 && a.state.kind == 3);
+    CHECK(a.state.bbox.xmin == 1 && a.state.bbox.ymin == 2 && a.state.bbox.xmax == 3 && a.state.bbox.ymax == 4);
+    CHECK(a.state.bbox.zmin == 0 && a.state.bbox.zmax == 0 && a.state.bbox.mmin == 0 && a.state.bbox.mmax == 0);
+    CHECK(is(f.refusal, 0, 0, 0));
+    memcpy(shp, f.shp, 100);
+    memcpy(shx, f.shx, 100);
+    return a.state;
+}
+
+static void pairs(uint8_t *shp, uint8_t *shx) {
+    mbenaruul_pair_checked p = mbenaruul_check_pair(shp, 188, shx, 108);
+
+    CHECK(is(p.refusal, 0, 0, 0) && p.totals.records == 1 && p.totals.parts == 1 && p.totals.points == 2);
+    p = mbenaruul_check_pair(shp, 187, shx, 108);
+    CHECK(is(p.refusal, 8, 5, 0) && p.totals.records == 0 && p.totals.parts == 0 && p.totals.points == 0);
+    shx[107] ^= 1;
+    CHECK(is(mbenaruul_check_pair(shp, 188, shx, 108).refusal, 8, 11, 1));
+    shx[107] ^= 1;
+    CHECK(is(mbenaruul_check_pair(shp, 0, shx, 0).refusal, 8, 1, 0));
+}
+
+static void heads(uint8_t *shp, const uint8_t *shx) {
+    mbenaruul_header_read h = mbenaruul_read_header(shp, 188);
+    mbenaruul_record_header_read r = mbenaruul_read_record_header(shp + 100, 8);
+    mbenaruul_index_entry_read e = mbenaruul_read_index_entry(shx + 100, 8);
+
+    CHECK(is(h.refusal, 0, 0, 0) && h.header.file_length == 94 && h.header.version == 1000 && h.header.shape_type == 3);
+    CHECK(h.header.bbox.xmin == 1 && h.header.bbox.ymin == 2 && h.header.bbox.xmax == 3 && h.header.bbox.ymax == 4 && h.header.bbox.mmax == 0);
+    h = mbenaruul_read_header(shp, 27);
+    CHECK(is(h.refusal, 1, 24, 0) && h.header.version == 0 && h.header.bbox.xmax == 0);
+    shp[0] = 0xff; /* a code below 0 stands as its 32 bits */
+    CHECK(is(mbenaruul_read_header(shp, 100).refusal, 2, 0xff00270a, 0));
+    shp[0] = 0;
+    CHECK(is(r.refusal, 0, 0, 0) && r.header.record_number == 1 && r.header.content_length == 40);
+    r = mbenaruul_read_record_header(shp + 100, 7);
+    CHECK(is(r.refusal, 1, 4, 0) && r.header.record_number == 0);
+    CHECK(is(e.refusal, 0, 0, 0) && e.entry.offset == 50 && e.entry.content_length == 40);
+    CHECK(is(mbenaruul_read_index_entry(shx + 100, 3).refusal, 1, 0, 0));
+}
+
+static void records(const uint8_t *content) {
+    static const uint8_t null[4];
+    uint8_t point[36] = {11};
+    const double values[] = {1.5, 2.5, 3.5, 4.5};
+    uint32_t c[] = {9, 9};
+    double p[] = {9, 9, 9, 9, 9}, zs[] = {9}, ms[] = {9};
+    mbenaruul_record_read r = mbenaruul_read_record(content, 80, 80, c, 0, p, 5, zs, 1, ms, 1);
+
+    CHECK(is(r.refusal, 6, 1, 2) && c[0] == 9 && p[0] == 9);
+    r = mbenaruul_read_record(content, 80, 80, c, 2, p, 5, zs, 1, ms, 1);
+    CHECK(is(r.refusal, 0, 0, 0) && r.code == 3 && r.form == 2 && r.has_m == 0 && r.body.parts == 1 && r.body.points == 2);
+    CHECK(r.body.bbox.xmin == 1 && r.body.bbox.ymin == 2 && r.body.bbox.xmax == 3 && r.body.bbox.ymax == 4 && r.point.x == 0);
+    CHECK(c[0] == 2 && c[1] == 9 && p[0] == 1 && p[1] == 2 && p[2] == 3 && p[3] == 4 && p[4] == 9 && zs[0] == 9 && ms[0] == 9);
+    r = mbenaruul_read_record_of(5, content, 80, 80, c, 2, p, 5, zs, 1, ms, 1);
+    CHECK(is(r.refusal, 5, 5, 3) && r.code == 0 && r.form == 0);
+    CHECK(is(mbenaruul_read_record_of(-1, content, 80, 80, c, 2, p, 5, zs, 1, ms, 1).refusal, 4, 0xffffffff, 0));
+    CHECK(is(mbenaruul_read_record_of(8, content, 80, 80, c, 2, p, 5, zs, 1, ms, 1).refusal, 9, 8, 0));
+    CHECK(is(mbenaruul_read_record(content, 80, INT64_MIN, c, 2, p, 5, zs, 1, ms, 1).refusal, 3, 0, 0));
+    CHECK(is(mbenaruul_read_record(content, 80, (INT64_C(1) << 32) + 80, c, 2, p, 5, zs, 1, ms, 1).refusal, 3, 0, 0));
+    memcpy(point + 4, values, 32);
+    r = mbenaruul_read_record(point, 36, 36, c, 2, p, 5, zs, 1, ms, 1);
+    CHECK(is(r.refusal, 0, 0, 0) && r.code == 11 && r.form == 1 && r.body.points == 0);
+    CHECK(r.point.x == 1.5 && r.point.y == 2.5 && r.point.z == 3.5 && r.point.m == 4.5);
+    CHECK(is(mbenaruul_read_record(point, 35, 36, c, 2, p, 5, zs, 1, ms, 1).refusal, 1, 28, 0));
+    r = mbenaruul_read_record(null, 4, 4, c, 2, p, 5, zs, 1, ms, 1);
+    CHECK(is(r.refusal, 0, 0, 0) && r.code == 0 && r.form == 0);
+}
+
+static void refusals_of_adding(mbenaruul_state s) {
+    uint8_t out[88] = {0}, entry[8] = {0};
+    const uint8_t untouched[88] = {0};
+    mbenaruul_state full = s, bad = s;
+    mbenaruul_finished f;
+
+    full.words = 0x7ffffff0;
+    bad.words = -5;
+    CHECK(is(add(bad, 3, 4, out, 88, entry, 8).refusal, 3, 0, 0) && add(bad, 3, 4, out, 88, entry, 8).state.words == -5);
+    CHECK(is(add(s, 99, 4, out, 88, entry, 8).refusal, 4, 99, 0));
+    CHECK(is(add(s, 0, 4, out, 88, entry, 8).refusal, 9, 0, 0));
+    CHECK(is(add(s, 5, 4, out, 88, entry, 8).refusal, 5, 3, 5));
+    CHECK(is(add(s, 3, 3, out, 88, entry, 8).refusal, 10, 0, 0));
+    CHECK(is(add(full, 3, 4, out, 88, entry, 8).refusal, 7, 0, 0));
+    CHECK(is(add(s, 3, 4, out, 87, entry, 8).refusal, 6, 88, 0));
+    CHECK(is(add(s, 3, 4, out, 88, entry, 7).refusal, 6, 8, 0));
+    CHECK(same_state(add(s, 3, 4, out, 87, entry, 8).state, s) && add(s, 3, 4, out, 87, entry, 8).bytes == 0);
+    CHECK(memcmp(out, untouched, 88) == 0 && memcmp(entry, untouched, 8) == 0);
+    f = mbenaruul_finish(bad);
+    CHECK(is(f.refusal, 3, 0, 0) && memcmp(f.shp, untouched, 88) == 0 && memcmp(f.shx, untouched, 88) == 0);
+}
+
+/* The state by value and the state lent come to the same. */
+static void write_both_ways(void) {
+    uint8_t a_out[400], b_out[400], a_entry[8], b_entry[8];
+    mbenaruul_state lent = mbenaruul_new(), given = mbenaruul_new(), before;
+    mbenaruul_added a;
+    mbenaruul_written b;
+    size_t start = 5;
+    int k;
+
+    memset(a_out, 0xaa, sizeof a_out);
+    memset(b_out, 0xaa, sizeof b_out);
+    for (k = 1; k <= 2; k++) {
+        a = mbenaruul_add_record(given, 13, box, counts, 1, xy, 4, z, 2, m, 2, a_out, sizeof a_out, start, a_entry, 8);
+        b = mbenaruul_write_shape(&lent, 13, box, counts, 1, xy, 4, z, 2, m, 2, b_out, sizeof b_out, start, b_entry, 8);
+        CHECK(is(a.refusal, 0, 0, 0) && is(b.refusal, 0, 0, 0) && a.bytes == 152 && b.bytes == 152);
+        CHECK(same_state(a.state, lent) && lent.number == k + 1);
+        CHECK(memcmp(a_out, b_out, sizeof a_out) == 0 && memcmp(a_entry, b_entry, 8) == 0);
+        given = a.state;
+        start += b.bytes;
+    }
+    CHECK(b_out[4] == 0xaa && b_out[5 + 2 * 152] == 0xaa);
+    CHECK(lent.bbox.zmin == 5 && lent.bbox.zmax == 6 && lent.bbox.mmin == 7 && lent.bbox.mmax == 8);
+    before = lent;
+    b = mbenaruul_write_shape(&lent, 13, box, counts, 1, xy, 4, z, 1, m, 2, b_out, sizeof b_out, start, b_entry, 8);
+    CHECK(is(b.refusal, 10, 0, 0) && b.bytes == 0 && same_state(lent, before));
+    b = mbenaruul_write_shape(&lent, 13, box, counts, 1, xy, 4, z, 2, m, 2, b_out, sizeof b_out, SIZE_MAX, b_entry, 8);
+    CHECK(is(b.refusal, 6, SIZE_MAX, 0) && same_state(lent, before));
+    CHECK(memcmp(a_out, b_out, sizeof a_out) == 0 && memcmp(a_entry, b_entry, 8) == 0);
+}
+
+static void rings(void) {
+    double outer[] = {0, 0, 0, 1, 1, 1, 1, 0, 0, 0}, inner[] = {0, 0, 1, 0, 1, 1, 0, 1, 5, 5};
+    mbenaruul_told t = mbenaruul_is_part_closed(outer, 10);
+
+    CHECK(is(t.refusal, 0, 0, 0) && t.value == 1);
+    t = mbenaruul_is_part_closed(outer, 8);
+    CHECK(is(t.refusal, 0, 0, 0) && t.value == 0);
+    CHECK(is(mbenaruul_is_part_closed(outer, 7).refusal, 10, 0, 0));
+    t = mbenaruul_ring_type_from_points_ordering(outer, 10);
+    CHECK(is(t.refusal, 0, 0, 0) && t.value == 0);
+    CHECK(is(mbenaruul_close_points_if_not_already(inner, 8, 8).refusal, 6, 0, 5));
+    CHECK(is(mbenaruul_close_points_if_not_already(inner, 10, 11).refusal, 10, 0, 0));
+    t = mbenaruul_close_points_if_not_already(inner, 10, 8);
+    CHECK(is(t.refusal, 0, 0, 0) && t.value == 5 && inner[8] == 0 && inner[9] == 0);
+    t = mbenaruul_ring_type_from_points_ordering(inner, 10);
+    CHECK(is(t.refusal, 0, 0, 0) && t.value == 1);
+}
+
+int main(void) {
+    static uint8_t shp[188], shx[108];
+    mbenaruul_state s = mbenaruul_new();
+
+    CHECK(s.words == 50 && s.number == 1 && s.kind == 0 && s.bbox.xmin == 0 && s.bbox.mmax == 0);
+    s = one_run(shp, shx);
+    pairs(shp, shx);
+    heads(shp, shx);
+    records(shp + 108);
+    refusals_of_adding(s);
+    write_both_ways();
+    rings();
+    printf("calls: %d checks, %d failed\n", checks, failed);
+    return failed != 0;
+}
