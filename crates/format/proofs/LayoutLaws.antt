@@ -7,13 +7,10 @@ use native.Mathlib.Omega.{arith}
 use lib.ListN.{length, getD, take, drop, set, length-append}
 use lib.Seq.{sets, take-at, drop-append-add, drop-drop, take-add, take-take, take-nil}
 use Rattle.format.specs.Bytes.{field}
+use Rattle.format.specs.Shapes.{sum}
 
 abbrev pub widths : List (List ℕ) → List ℕ
 widths fs = map length fs
-
-abbrev pub sum : List ℕ → ℕ
-sum [] = 0
-sum (w ∷ ws) = w + sum ws
 
 -- where field i starts
 abbrev pub start : List ℕ → ℕ → ℕ

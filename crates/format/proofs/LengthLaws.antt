@@ -2,17 +2,18 @@
 use mathlib.Core.Path.{_≡_, refl, sym, ap, _∙_}
 use mathlib.Core.Bool.{false}
 use mathlib.Core.List.{List, [], _∷_, map}
-use mathlib.Core.Option.{Option, bind}
+use mathlib.Core.Option.{Option, some, bind}
 use Prim.Native.Nat.{ℕ, zero, suc, _*_, _^_, _≤_, _<_}
 use native.Mathlib.Nat.{not-suc-le-zero, le-of-suc-le-suc, le-of-lt, lt-of-le-of-lt, mul-le-mul-left, mul-lt-mul-of-pos-right}
+use lib.IntN.{ℤ}
 use lib.ListN.{length, getD, getElem?}
 use lib.Pow.{pow-pos}
 use Rattle.format.specs.declared.kinds.Kind.{Kind}
 use Rattle.format.specs.declared.lengths.Content.{Content}
 use Rattle.format.specs.declared.lengths.Content.the-variants.{Taken, NotTaken}
-use Rattle.format.specs.Kinds.{kind, kinds, rowOf}
+use Rattle.format.specs.Kinds.{kind, kinds, rowOf, kindAt}
 use Rattle.format.specs.Lengths.{formOf, fixedWords, pointWords, lengthsOf, taken, contentOf}
-use Rattle.format.proofs.KindLaws.{elem-in, elem-out}
+use Rattle.format.proofs.KindLaws.{code-is, elem-in, elem-out}
 
 abbrev row : ℕ → ℕ → ℕ → ℕ → Content
 row f p fm pm = Taken (record { without = record { fixed = f; point = p }; with = record { fixed = fm; point = pm } })
@@ -57,6 +58,10 @@ module _ (code i : ℕ) (r : i ≡ rowOf code kinds) where
   pub content-out : 14 ≤ i → NotTaken ≡ contentOf code
   unfolding contentOf bind kinds
   content-out h = ap (λ (o : Option Kind). taken (bind o lengthsOf)) (sym (ap (getElem? kinds) (sym r) ∙ elem-out kinds i h))
+
+pub content-is : (z : ℤ) (k : Kind) → kindAt z ≡ some k → contentOf (k .code) ≡ taken (lengthsOf k)
+unfolding contentOf bind
+content-is z k e = ap (λ (o : Option Kind). taken (bind o lengthsOf)) (sym (ap kindAt (code-is z k e)) ∙ e)
 
 -- ---- what a formula comes to
 

@@ -10,12 +10,13 @@ use lib.Seq.{sets}
 use Rattle.format.specs.Encoding.{doubles, boxBytes, measureBytes, partsBytes}
 use Rattle.format.specs.Lengths.{contentWords, fixedWords, pointWords}
 use Rattle.format.specs.Numbers.{little, f64Le, f64sLe}
+use Rattle.format.specs.Shapes.{sum}
 use Rattle.format.proofs.LayoutLaws.{sets-append}
 use Rattle.format.proofs.NumberLaws.{length-little}
 use Rattle.header.specs.declared.bbox.BBoxZ.{BBoxZ}
 use Rattle.layouts.specs.Answers.{agree, bodySize}
 use Rattle.layouts.specs.Steps.{measureSize, startsBytes, corners, frontBytes, Agreed}
-use Rattle.layouts.specs.Tables.{sum, pointsOf, measureOf, partsOf}
+use Rattle.layouts.specs.Tables.{pointsOf, measureOf, partsOf}
 use Rattle.layouts.proofs.TableLaws.{agreed, length-points, points-bytes, split-length, split-whole, split-starts, doubles-bytes, length-f64sLe, length-starts}
 
 -- bytes that are stored right behind others

@@ -6,9 +6,9 @@ use Prim.Native.Nat.{ℕ, _+_, _*_, _^_, _≤_, _<_}
 use lib.Ieee.{Float}
 use lib.ListN.{length}
 use Rattle.format.specs.Numbers.{little, f64sLe}
+use Rattle.format.specs.Shapes.{sum}
 use Rattle.header.specs.declared.bbox.BBoxZ.{BBoxZ}
 use Rattle.layouts.specs.Answers.{bodySize}
-use Rattle.layouts.specs.Tables.{sum}
 
 -- the bytes of a range and n values, where the layout has them
 abbrev pub measureSize : Bool → ℕ → ℕ

@@ -6,15 +6,15 @@ use mathlib.Core.Option.{Option, none, some}
 use Prim.Native.Nat.{ℕ, zero, suc, _+_, _*_, _≤_}
 use native.Mathlib.Omega.{arith}
 use lib.ListN.{length}
-use Rattle.format.specs.Bytes.{le, field}
+use Rattle.format.specs.Bytes.{le, field, Fit}
 use Rattle.format.specs.Numbers.{finite}
 use Rattle.format.specs.Shapes.{Measure}
 use Rattle.format.specs.WellFormed.{AllFinite, valueFinite, measureFinite}
 use Rattle.format.proofs.ByteLaws.{AllBytes, le-field-lt}
+use Rattle.format.proofs.OrderLaws.{both-true}
+use Rattle.format.proofs.Runs.{numbers}
+use Rattle.format.proofs.Doubles.{value, measured, writeIf}
 use Rattle.rules.specs.Rules.{finites}
-use Rattle.meaning.proofs.Runs.{numbers, Fit}
-use Rattle.meaning.proofs.Doubles.{value, measured, writeIf}
-use Rattle.meaning.proofs.Tests.{and-true}
 
 pub finite-fit : (ds : List ℕ) → AllFinite ds → Fit 8 ds
 finite-fit [] f = tt
@@ -29,7 +29,7 @@ pub finites-all : (n at : ℕ) (s : List ℕ) → AllBytes s → at + 8 * n ≤ 
 unfolding numbers finites
 finites-all zero at s b h e = tt
 finites-all (suc n) at s b h e =
-    let p = and-true (finite (le (field 8 at s))) (finites n (at + 8) s) e in
+    let p = both-true (finite (le (field 8 at s))) (finites n (at + 8) s) e in
     (record { bits = le-field-lt 8 at s b (omega arith); finite = p .0 }, finites-all n (at + 8) s b (omega arith) (p .1))
 
 pub finite-append : (a b : List ℕ) → AllFinite a → AllFinite b → AllFinite (a ++ b)

@@ -10,13 +10,12 @@ use lib.ListN.{length}
 use Rattle.format.specs.Numbers.{leI32}
 use Rattle.format.specs.Order.{first, fieldsFrom}
 use Rattle.format.specs.Said.{Said, short}
-use Rattle.format.proofs.OrderLaws.{fields-whole, fields-cut}
+use Rattle.format.proofs.OrderLaws.{fields-whole, fields-cut, first-append}
 use Rattle.multipart.specs.declared.Body.{Body}
 use Rattle.multipart.specs.declared.judge.Walk.{Walk}
 use Rattle.multipart.specs.declared.judge.Walk.the-variants.{On, Short, Size}
 use Rattle.multipart.specs.Body.{partsIn, differencesIn, countsIn, pointsIn, pairsAt, zAt, mAt, partTests, measureTests, restTests}
 use Rattle.multipart.specs.Walks.{Passes, Refuses, Finds, PartsWalk, MeasureWalk}
-use Rattle.multipart.proofs.TestLaws.{first-append}
 
 -- ---- one list of tests after another
 

@@ -12,17 +12,15 @@ use Rattle.format.specs.Numbers.{leF64, doublesAt}
 use Rattle.format.specs.Order.{first, fieldsFrom}
 use Rattle.format.specs.Said.{Said, gives, short}
 use Rattle.format.specs.Shapes.{Parts, parted, there, PartsOf}
-use Rattle.format.proofs.OrderLaws.{fields-whole}
-use Rattle.multipart.specs.Answers.{Two, countsOf}
+use Rattle.format.proofs.OrderLaws.{fields-whole, first-append}
+use Rattle.format.proofs.Laid.{boxDoubles}
 use Rattle.multipart.specs.declared.Body.{Body}
+use Rattle.multipart.specs.Answers.{Two, countsOf}
 use Rattle.multipart.specs.Body.{partsIn, pointsIn, zAt, mAt, roomTests, bodyIn, bodyOf, countTests, partTests, differencesIn, pairsAt, measureTests, restTests}
 use Rattle.multipart.specs.Walks.{Passes}
-use Rattle.multipart.proofs.TestLaws.{first-append}
-use Rattle.meaning.proofs.Laid.{boxDoubles}
 use Rattle.readback.specs.Held.{PartsHeld}
 use Rattle.readback.specs.ReadBack.{Small, value, bodyOfParts, Roomy}
 use Rattle.readback.proofs.Counts.{parts-pass}
-use Rattle.readback.proofs.Held.{held-fit}
 use Rattle.readback.proofs.InParts.{bytes, parts, points, pairsPlace, zPlace, mPlace, size, points-held, at-box, at-z, at-m, parts-is, number-is, differences-are, points-are, pairs-place, z-place, m-place}
 use Rattle.readback.proofs.Measures.{range-back}
 use Rattle.readback.proofs.Numbers.{doubles-back}
@@ -78,7 +76,7 @@ module _ (k : Kind) (s : Parts) (o : PartsOf k s) (v : PartsHeld s) (small : Sma
   -- ---- the body
 
   box-are : doublesAt 4 0 (bytes s) ≡ map value (boxDoubles (s .box))
-  box-are = doubles-back 0 4 (boxDoubles (s .box)) (bytes s) refl (held-fit (boxDoubles (s .box)) (v .box)) (at-box k s o v small)
+  box-are = doubles-back 0 4 (boxDoubles (s .box)) (bytes s) refl (v .box) (at-box k s o v small)
 
   body-is : bodyIn (there (s .z)) (there (s .m)) (bytes s) ≡ bodyOfParts s
   unfolding bodyIn doublesAt

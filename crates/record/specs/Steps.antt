@@ -11,7 +11,7 @@ use Rattle.format.specs.declared.kinds.Kind.{Kind}
 use Rattle.format.specs.declared.lengths.Formula.{Formula}
 use Rattle.format.specs.declared.lengths.Lengths.{Lengths}
 use Rattle.format.specs.declared.units.Bytes.{Bytes}
-use Rattle.format.specs.Kinds.{known}
+use Rattle.format.specs.Kinds.{known, kindAt}
 use Rattle.format.specs.Lengths.{lengthsOf}
 use Rattle.format.specs.Numbers.{leF64}
 use Rattle.format.specs.Order.{first, whole}
@@ -28,7 +28,7 @@ use Rattle.record.specs.declared.front.Front.{Front}
 use Rattle.record.specs.declared.front.Front.the-variants as FrontIs
 use Rattle.record.specs.declared.sizes.Sized.{Sized}
 use Rattle.record.specs.declared.sizes.Sized.the-variants as SizedIs
-use Rattle.record.specs.Reading.{Shaped, partsShape, codeIn, kindAt, isTaken, mismatchTests, moved, andThen, hasM, sizeRight, saidRecord, stored}
+use Rattle.record.specs.Reading.{Shaped, partsShape, codeIn, isTaken, mismatchTests, moved, andThen, hasM, sizeRight, saidRecord, stored}
 
 -- ---- the tests in front of the shape
 

@@ -18,11 +18,11 @@ use Rattle.format.specs.Encoding.{shapeBytes, shapeWords, pointBytes, valueByte
 use Rattle.format.specs.Lengths.{onePoint, parts, fixedWords, pointWords, contentWords}
 use Rattle.format.specs.Numbers.{little, f64Le, f64sLe}
 use Rattle.format.specs.Said.{Said, gives, unlessRefused}
-use Rattle.format.specs.Shapes.{Shape}
+use Rattle.format.specs.Shapes.{Shape, sum}
 use Rattle.header.specs.declared.bbox.BBoxZ.{BBoxZ}
 use Rattle.layouts.specs.declared.LayoutAnswer.{LayoutAnswer}
 use Rattle.layouts.specs.Answers.{agree, bodySize, layoutOf, WritesBody}
-use Rattle.layouts.specs.Tables.{sum, partsOf}
+use Rattle.layouts.specs.Tables.{partsOf}
 use Rattle.writer.specs.Adding.{valueOf, pointShape}
 use Rattle.writer.specs.Judging.{shapeBy, wordsBy, wordsOf, Ready}
 use Rattle.writer.proofs.ShapeLaws.{Agreed, agreed, empty}

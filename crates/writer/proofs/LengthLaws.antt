@@ -14,7 +14,7 @@ use Rattle.format.specs.declared.lengths.Formula.{Formula}
 use Rattle.format.specs.declared.lengths.Counted.the-variants as CountedIs
 use Rattle.format.specs.declared.units.Words.{Words}
 use Rattle.format.specs.Lengths.{counted}
-use Rattle.layouts.specs.Tables.{sum}
+use Rattle.format.specs.Shapes.{sum}
 use Rattle.writer.specs.declared.judge.LengthJudged.the-variants.{Held, Long}
 use Rattle.writer.specs.declared.judge.RoomJudged.the-variants.{Fits, Needs}
 use Rattle.writer.specs.Judging.{wordsOf, formulaWords, lengthJudged, roomJudged}

@@ -13,7 +13,7 @@ use Rattle.format.specs.declared.units.Words.{Words}
 use Rattle.format.specs.Encoding.{shapeWords}
 use Rattle.format.specs.Lengths.{formula}
 use Rattle.format.specs.Said.{gives, roomBytes}
-use Rattle.layouts.proofs.TableLaws.{both}
+use Rattle.format.proofs.OrderLaws.{both-true}
 use Rattle.writer.specs.declared.State.{State}
 use Rattle.writer.specs.declared.AddAnswer.{AddAnswer}
 use Rattle.writer.specs.declared.AddAnswer.the-variants as AddIs
@@ -124,7 +124,7 @@ module _ (s : State) (t : Lent) (k : Kind) (o : OfCode (t .code) k) (ok : stateF
           passed x e =
               let r = fits-by _ _ _ _ _ e in
               let p : leb (start + recordSize t) out ≡ true = ap (λ (z : ℕ). leb (start + z) out) (sym size-is) ∙ r .0 in
-              let g = both _ _ held in
+              let g = both-true _ _ held in
               record {
                 of-code = o;
                 agrees = yes;

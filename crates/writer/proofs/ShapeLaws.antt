@@ -10,13 +10,15 @@ use lib.ListN.{length}
 use borrow.Author.Tests.{eqb-true}
 use Rattle.format.specs.declared.kinds.Kind.{Kind}
 use Rattle.format.specs.Encoding.{shapeWords}
+use Rattle.format.specs.Kinds.{kindOr}
 use Rattle.format.specs.Lengths.{onePoint, parts, formula, contentWords}
-use Rattle.format.specs.Shapes.{there}
+use Rattle.format.specs.Shapes.{there, sum}
+use Rattle.format.proofs.OrderLaws.{both-true}
 use Rattle.header.specs.declared.bbox.BBoxZ.{BBoxZ}
 use Rattle.layouts.specs.Answers.{countsHeld}
-use Rattle.layouts.specs.Tables.{sum, pointsOf, measureOf, partsOf}
-use Rattle.layouts.proofs.TableLaws.{both, length-points, split-length, split-whole}
-use Rattle.writer.specs.Adding.{Lent, kindOr, formOr, lentKind, lentForm, valueOf, pointShape, lentShape, lentAgree}
+use Rattle.layouts.specs.Tables.{pointsOf, measureOf, partsOf}
+use Rattle.layouts.proofs.TableLaws.{length-points, split-length, split-whole}
+use Rattle.writer.specs.Adding.{Lent, formOr, lentKind, lentForm, valueOf, pointShape, lentShape, lentAgree}
 use Rattle.writer.specs.Judging.{OfCode, formBy, pointsBy, agreeBy, shapeBy, wordsBy, formulaWords}
 
 -- ---- what is lent, by its kind
@@ -61,9 +63,9 @@ none-by false counts h e = empty counts (eqb-true (length counts) 0 h)
 
 pub agreed : (k : Kind) (counts : List ℕ) (xy zs ms : List Float) → agreeBy k counts xy zs ms ≡ true → Agreed k counts xy zs ms
 agreed k counts xy zs ms e =
-    let p = both _ _ e in
-    let q = both _ _ (p .0) in
-    let r = both _ _ (q .0) in
+    let p = both-true _ _ e in
+    let q = both-true _ _ (p .0) in
+    let r = both-true _ _ (q .0) in
     record {
       no-parts = none-by (k .parts) counts (r .0);
       xy-has = eqb-true (length xy) (2 * pointsBy k counts) (r .1);

@@ -11,14 +11,15 @@ use lib.ListN.{length, drop, length-drop}
 use lib.Seq.{length-take-le}
 use borrow.Author.Tests.{eqb-true}
 use Rattle.format.specs.declared.kinds.Kind.{Kind}
-use Rattle.format.specs.Shapes.{Point, Covers, OnlyIf}
+use Rattle.format.specs.Bytes.{Fit}
+use Rattle.format.specs.Shapes.{Point, Covers, OnlyIf, sum}
 use Rattle.format.specs.WellFormed.{coordinates}
-use Rattle.layouts.specs.Tables.{sum, bits, pointsOf, splitBy, measureOf}
-use Rattle.readback.specs.Held.{AllHeld, valueHeld, measureHeld}
-use Rattle.readback.specs.ReadBack.{value, valueOr, rangeOf, valuesOf}
-use Rattle.layouts.proofs.TableLaws.{both}
+use Rattle.format.proofs.OrderLaws.{both-true}
+use Rattle.layouts.specs.Tables.{bits, pointsOf, splitBy, measureOf}
 use Rattle.writer.specs.Adding.{Lent, valueOf, pointAgrees}
 use Rattle.writer.proofs.ShapeLaws.{empty}
+use Rattle.readback.specs.Held.{valueHeld, measureHeld}
+use Rattle.readback.specs.ReadBack.{value, valueOr, rangeOf, valuesOf}
 use Rattle.written.specs.Written.{AllDoubles, rangeIf, valueAt}
 
 -- ---- doubles
@@ -36,7 +37,7 @@ all-back (x ∷ xs) f =
     let rest = all-back xs (f .1) in
     λ i. here i ∷ rest i
 
-pub all-held : (xs : List Float) → AllDoubles xs → AllHeld (map bits xs)
+pub all-held : (xs : List Float) → AllDoubles xs → Fit 8 (map bits xs)
 all-held [] f = tt
 all-held (x ∷ xs) f = (held x (f .0), all-held xs (f .1))
 
@@ -103,10 +104,10 @@ one-agreed k t e =
     let xy = eqb (length (t .xy)) 2 in
     let zs = eqb (length (t .zs)) (cond (k .z) 1 0) in
     let ms = eqb (length (t .ms)) (cond (k .m) 1 0) in
-    let p = both (no-parts && xy && zs) ms e in
-    let q = both (no-parts && xy) zs (p .0) in
+    let p = both-true (no-parts && xy && zs) ms e in
+    let q = both-true (no-parts && xy) zs (p .0) in
     record {
-      xy-has = eqb-true (length (t .xy)) 2 (both no-parts xy (q .0) .1);
+      xy-has = eqb-true (length (t .xy)) 2 (both-true no-parts xy (q .0) .1);
       zs-has = eqb-true (length (t .zs)) (cond (k .z) 1 0) (q .1);
       ms-has = eqb-true (length (t .ms)) (cond (k .m) 1 0) (p .1);
     }

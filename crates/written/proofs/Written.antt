@@ -12,18 +12,18 @@ use Rattle.format.specs.Encoding.{twoBig, recordBytes, content, shapeWords}
 use Rattle.format.specs.Lengths.{Form, nothing, onePoint}
 use Rattle.format.specs.Lengths
 use Rattle.format.specs.Said.{gives}
-use Rattle.format.specs.Shapes.{Point, Measure, Parts, Shape, point, parted, there, OfKind}
+use Rattle.format.specs.Shapes.{Point, Measure, Parts, Shape, point, parted, there, OfKind, sum}
 use Rattle.format.specs.WellFormed
+use Rattle.format.proofs.NumberLaws.{length-two}
 use Rattle.multipart.specs.Body.{raised}
 use Rattle.layouts.specs.Steps.{Agreed}
-use Rattle.layouts.specs.Tables.{sum, bits, pointsOf, splitBy, measureOf, partsOf}
+use Rattle.layouts.specs.Tables.{bits, pointsOf, splitBy, measureOf, partsOf}
 use Rattle.layouts.proofs.TableLaws.{agreed, length-points, split-length, split-whole}
-use Rattle.meaning.proofs.Record.{length-two}
+use Rattle.writer.specs.Adding.{Lent, lentKind, lentForm, valueOf, pointShape, lentShape}
+use Rattle.writer.proofs.ShapeLaws.{there-measure, there-value}
 use Rattle.readback.specs.Held.{Held}
 use Rattle.readback.specs.ReadBack.{value, shapedAs, Roomy, StoresShape}
 use Rattle.readback.proofs.ReadsBack.{reads-back}
-use Rattle.writer.specs.Adding.{Lent, lentKind, lentForm, valueOf, pointShape, lentShape}
-use Rattle.writer.proofs.ShapeLaws.{there-measure, there-value}
 use Rattle.written.specs.Written.{Typed, valueAt, shapedBy, Room, TablesIn, written, ReadsWritten}
 use Rattle.written.proofs.Accepted.{Accepted, accepted}
 use Rattle.written.proofs.Tables.{back, held, all-back, all-held, coordinates-are, split-counts, only-if, range-is, measure-held, covers, values-are, double-at, OneAgreed, one-agreed, points-one, value-held, value-is}

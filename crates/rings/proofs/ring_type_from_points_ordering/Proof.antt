@@ -5,10 +5,11 @@ use Prim.Native.Nat.{_-_, _%_, _≤_}
 use native.Mathlib.Omega.{arith}
 use lib.Ieee.{Float}
 use lib.ListN.{drop}
+use Rattle.format.proofs.NumberLaws.{zero-bits}
 use Rattle.rings.specs.Answers.{turningOf}
 use Rattle.rings.specs.Points.{points, number, products, plus, turning}
 use Rattle.rings.proofs.AnswerLaws.{odd-run, turning-is}
-use Rattle.rings.proofs.PointLaws.{sum-turn, sum-end, zero-bits}
+use Rattle.rings.proofs.PointLaws.{sum-turn, sum-end}
 use Rattle.rings.proofs.ring_type_from_points_ordering.Statement.{statement}
 use Rattle.rings.proofs.ring_type_from_points_ordering.Tie as tie
 

@@ -7,8 +7,8 @@ use borrow.Author.Needs.{needs}
 use borrow.Author.Tests.{not-true, not-false}
 use lib.Dec.{eqb}
 use lib.ListN.{length}
+use Rattle.format.specs.Shapes.{sum}
 use Rattle.layouts.specs.Answers.{bodySize}
-use Rattle.layouts.specs.Tables.{sum}
 use Rattle.layouts.proofs.BodyLaws.{size-is, size-most}
 use Rattle.layouts.proofs.JudgeLaws.{odd, other-sum, other-z, other-m, long-parts, long-points, no-room, has-room}
 use Rattle.layouts.proofs.judge.judge_body.Statement.{statement}

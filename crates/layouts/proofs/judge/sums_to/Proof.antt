@@ -5,7 +5,7 @@ use native.Mathlib.Omega.{arith}
 use lib.Dec.{eqb}
 use lib.ListN.{length, drop}
 use lib.Seq.{drop-length}
-use Rattle.layouts.specs.Tables.{sum}
+use Rattle.format.specs.Shapes.{sum}
 use Rattle.layouts.proofs.Turns.{down-turn, down-past}
 use Rattle.layouts.proofs.judge.sums_to.Statement.{statement}
 use Rattle.layouts.proofs.judge.sums_to.Tie as tie

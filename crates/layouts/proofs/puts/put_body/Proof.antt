@@ -4,8 +4,8 @@ use Prim.Native.Nat.{ℕ, _+_, _*_, _/_, _≤_}
 use native.Mathlib.Omega.{arith}
 use borrow.Author.Needs.{needs}
 use lib.ListN.{length}
+use Rattle.format.specs.Shapes.{sum}
 use Rattle.layouts.specs.Steps.{measureSize}
-use Rattle.layouts.specs.Tables.{sum}
 use Rattle.layouts.proofs.BodyLaws.{size-is, same-size, body-stored}
 use Rattle.layouts.proofs.puts.put_body.Statement.{statement}
 use Rattle.layouts.proofs.puts.put_body.Tie as tie

@@ -7,8 +7,8 @@ use native.Mathlib.Omega.{arith}
 use lib.ListN.{length, getD, drop}
 use lib.Seq.{sets, drop-length}
 use Rattle.format.specs.Numbers.{little}
+use Rattle.format.specs.Shapes.{sum}
 use Rattle.layouts.specs.Steps.{startsBytes}
-use Rattle.layouts.specs.Tables.{sum}
 use Rattle.layouts.proofs.Turns.{sum-drop, starts-turn}
 use Rattle.layouts.proofs.puts.put_starts.Statement.{statement}
 use Rattle.layouts.proofs.puts.put_starts.Tie as tie

@@ -1,17 +1,11 @@
 -- `multipart::store::range_at` meets its contract, by the flag.
-use mathlib.Core.Path.{_≡_, refl}
 use Prim.Native.Nat.{_+_, _≤_}
 use native.Mathlib.Omega.{arith}
-use lib.Ieee.{binary64, ofBits, ofInt}
-use lib.IntN.{pos}
 use lib.ListN.{length}
 use borrow.Author.Needs.{needs}
+use Rattle.format.proofs.NumberLaws.{zero-bits}
 use Rattle.multipart.proofs.store.range_at.Statement.{statement}
 use Rattle.multipart.proofs.store.range_at.Tie as tie
-
-zero-bits : ofBits binary64 0 ≡ ofInt binary64 (pos 0)
-unfolding ofBits ofInt
-zero-bits = refl
 
 inside : (c : tie.Then1) → c .before .before .args .at + 16 ≤ length (c .before .before .args .s .now)
 inside c = rw (c .if1 .taken) at (c .before .before .pre)

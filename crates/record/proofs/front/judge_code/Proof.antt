@@ -6,11 +6,11 @@ use lib.IntN.{ℤ, pos, natAbs}
 use mir.Syntax.{w32}
 use mir.Val.{toZ, ofZ}
 use borrow.Author.Needs.{needs}
-use Rattle.format.specs.Kinds.{kindOf, known}
+use Rattle.format.specs.Kinds.{kindOf, known, kindAt}
 use Rattle.format.specs.Lengths.{contentOf}
 use Rattle.format.proofs.SignLaws.{back}
-use Rattle.record.specs.Reading.{kindAt}
-use Rattle.record.proofs.FrontLaws.{known-is, kind-at, known-casts, taken-no, taken-yes, zero-fits, same-code, other-code, wanted-unknown, wanted-not, wanted-null, wanted-well}
+use Rattle.format.proofs.UnitLaws.{bits-same, bits-differ}
+use Rattle.record.proofs.FrontLaws.{known-is, kind-at, known-casts, taken-no, taken-yes, zero-fits, wanted-unknown, wanted-not, wanted-null, wanted-well}
 use Rattle.record.proofs.front.judge_code.Statement.{statement}
 use Rattle.record.proofs.front.judge_code.Tie as tie
 
@@ -71,14 +71,14 @@ returns-3 c =
     let s = l .before .before .before .before in
     rw (code-back s)
     (wanted-null (s .args .code) (is-known (l .before)) (taken-yes (s .args .code) _ (kind-here (l .before)) _ _ (content-found l) (c .before .enum-told3 .given .1) .0)
-    (same-code (s .args .code) (pos 0) (s .fits .code) zero-fits (c .if1 .taken)))
+    (bits-same (s .args .code) (pos 0) (s .fits .code) zero-fits (c .if1 .taken)))
 
 returns-4 : tie.Need-returns-4
 returns-4 c =
     let l = c .before .before .before in
     let s = l .before .before .before .before in
     wanted-well (s .args .code) (is-known (l .before)) (taken-yes (s .args .code) _ (kind-here (l .before)) _ _ (content-found l) (c .before .enum-told3 .given .1) .0)
-    (other-code (s .args .code) (pos 0) (c .if1 .left))
+    (bits-differ (s .args .code) (pos 0) (c .if1 .left))
 
 pub judge-code-spec : {M : Type 1} → statement M
 judge-code-spec =

@@ -7,12 +7,12 @@ use mir.Syntax.{w32, w64}
 use mir.Val.{SFits, toZ, ofZ}
 use mir.ValLaws.{toZ-ofZ}
 use borrow.Author.Needs.{needs}
-use Rattle.format.specs.Kinds.{kindOf, known}
+use Rattle.format.specs.Kinds.{kindOf, known, kindAt}
 use Rattle.format.specs.Lengths.{contentOf}
 use Rattle.format.proofs.SignLaws.{back}
 use Rattle.record.specs.declared.front.Judged.{Judged}
 use Rattle.record.specs.declared.front.Judged.the-variants as JudgedIs
-use Rattle.record.specs.Reading.{codeIn, kindAt, mismatchTests}
+use Rattle.record.specs.Reading.{codeIn, mismatchTests}
 use Rattle.record.specs.Steps.{Judges, Held}
 use Rattle.record.proofs.FrontLaws.{known-is, kind-at, known-casts, taken-no, taken-yes, cut, found-unknown, size-left, found-other, found-not, found-well}
 use Rattle.record.proofs.SizeLaws.{too-low, too-high, held}

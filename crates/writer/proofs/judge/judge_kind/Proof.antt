@@ -7,9 +7,10 @@ use mir.ValLaws.{toZ-ofZ}
 use borrow.Author.Tests.{not-true, not-false}
 use borrow.Author.Needs.{needs}
 use Rattle.format.specs.Units.{sameInt}
+use Rattle.format.proofs.UnitLaws.{bits-same, bits-differ}
 use Rattle.writer.specs.Judging.{lookUp}
 use Rattle.writer.specs.State.{stateFine}
-use Rattle.writer.proofs.JudgeLaws.{zero-yes, zero-no, bits-same, bits-differ, no-state, no-kind, no-taken, no-null, no-match, kind-fine}
+use Rattle.writer.proofs.JudgeLaws.{zero-yes, zero-no, no-state, no-kind, no-taken, no-null, no-match, kind-fine}
 use Rattle.writer.proofs.judge.judge_kind.Statement.{statement}
 use Rattle.writer.proofs.judge.judge_kind.Tie as tie
 

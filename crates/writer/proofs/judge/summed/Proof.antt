@@ -4,7 +4,7 @@ use Prim.Native.Nat.{_+_, _-_, _≤_, _<_}
 use native.Mathlib.Omega.{arith}
 use lib.ListN.{length, drop}
 use borrow.Author.Needs.{needs}
-use Rattle.layouts.specs.Tables.{sum}
+use Rattle.format.specs.Shapes.{sum}
 use Rattle.writer.proofs.LengthLaws.{sum-more, sum-end, over, within}
 use Rattle.writer.proofs.judge.summed.Statement.{statement}
 use Rattle.writer.proofs.judge.summed.Tie as tie
