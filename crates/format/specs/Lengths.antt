@@ -88,5 +88,8 @@ abbrev pub heldWords : ℕ → Counted
 heldWords words = cond (ltb words (2 ^ 31)) (Is (record { 0 = pos words })) Long
 
 -- a formula's words for p parts and n points
+abbrev pub formulaWords : Formula → ℕ → ℕ → ℕ
+formulaWords f p n = f .fixed + 2 * p + f .point * n
+
 unfoldable pub counted : Formula → ℕ → ℕ → Counted
-counted f p n = heldWords (f .fixed + 2 * p + f .point * n)
+counted f p n = heldWords (formulaWords f p n)

@@ -84,7 +84,7 @@ module _ (z m : Bool) (b : BBoxZ) (counts : List ℕ) (xy zs ms : List Float) wh
   abbrev mRun : List ℕ
   mRun = run m (b .mmin) (b .mmax) ms
 
-  module _ (h : Agreed z m counts xy zs ms) where
+  module _ (h : Agreed z m (sum counts) xy zs ms) where
     points : sum counts ≡ length (pointsOf xy)
     points = omega (arith, h .xy-has, length-points xy)
 
@@ -126,4 +126,4 @@ module _ (z m : Bool) (b : BBoxZ) (counts : List ℕ) (xy zs ms : List Float) wh
     body-stored n e = rw e stored
 
   pub length-body : agree z m counts xy zs ms ≡ true → length (partsBytes (partsOf z m b counts xy zs ms)) ≡ bodySize z m (length counts) (sum counts)
-  length-body e = sized (agreed z m counts xy zs ms e)
+  length-body e = sized (agreed true z m (sum counts) xy zs ms e .1)

@@ -78,7 +78,7 @@ placed z m counts xy zs ms room size e =
     let n = bodySize z m (length counts) (sum counts) in
     let ok = passed n size (layoutTests z m counts xy zs ms room) tt (sym e) in
     record {
-      agreed = agreed z m counts xy zs ms (ok 0);
+      agreed = agreed true z m (sum counts) xy zs ms (ok 0) .1;
       held = ltb-true (sum counts) (2 ^ 31) (both-true (ltb (length counts) (2 ^ 31)) (ltb (sum counts) (2 ^ 31)) (ok 1) .1);
       fits = leb-true n room (ok 2);
     }

@@ -14,24 +14,20 @@ use Rattle.format.specs.Numbers.{little, f64Le, f64sLe}
 use Rattle.format.specs.Shapes.{Point, sum}
 use Rattle.format.proofs.NumberLaws.{length-little, length-f64Le}
 use Rattle.format.proofs.OrderLaws.{both-true}
-use Rattle.layouts.specs.Answers.{agree}
 use Rattle.layouts.specs.Steps.{startsBytes, Agreed}
 use Rattle.layouts.specs.Tables.{bits, pointsOf, splitBy}
 
 -- ---- tables that agree
 
-pub agreed : (z m : Bool) (counts : List ℕ) (xy zs ms : List Float) → agree z m counts xy zs ms ≡ true → Agreed z m counts xy zs ms
-agreed z m counts xy zs ms e =
-    let a = eqb (length xy) (2 * sum counts) in
-    let b = eqb (length zs) (cond z (sum counts) 0) in
-    let c = eqb (length ms) (cond m (sum counts) 0) in
-    let p = both-true (a && b) c e in
-    let q = both-true a b (p .0) in
-    record {
-      xy-has = eqb-true (length xy) (2 * sum counts) (q .0);
-      zs-has = eqb-true (length zs) (cond z (sum counts) 0) (q .1);
-      ms-has = eqb-true (length ms) (cond m (sum counts) 0) (p .1);
-    }
+-- with p for what else is asked
+pub agreed : (p z m : Bool) (n : ℕ) (xy zs ms : List Float)
+    → p && eqb (length xy) (2 * n) && eqb (length zs) (cond z n 0) && eqb (length ms) (cond m n 0) ≡ true
+    → (p ≡ true) × Agreed z m n xy zs ms
+agreed p z m n xy zs ms e =
+    let a = both-true _ (eqb (length ms) (cond m n 0)) e in
+    let b = both-true _ (eqb (length zs) (cond z n 0)) (a .0) in
+    let c = both-true p (eqb (length xy) (2 * n)) (b .0) in
+    (c .0, record { xy-has = eqb-true _ _ (c .1); zs-has = eqb-true _ _ (b .1); ms-has = eqb-true _ _ (a .1) })
 
 -- ---- points
 

@@ -13,6 +13,7 @@ use Rattle.format.specs.Lengths.{onePoint, formOf, contentWords}
 use Rattle.format.specs.Shapes.{Point, point, there, partsIn, pointsIn, PointOf}
 use Rattle.format.specs.WellFormed.{hasRings, AllFinite, PointWellFormed}
 use Rattle.format.proofs.ByteLaws.{AllBytes}
+use Rattle.format.proofs.FiniteLaws.{finite-fit, finite-append, finite-front, finite-back, value-finite, finite-value}
 use Rattle.format.proofs.Places.{Stands}
 use Rattle.format.proofs.Runs.{numbers, numbers-back, run, run-stands, length-numbers}
 use Rattle.format.proofs.Doubles.{value, writeIf, there-read, zIn, mIn, all-written, length-all, z-back, m-back}
@@ -21,7 +22,7 @@ use Rattle.format.proofs.Laid.{point-words, pointDoubles, point-laid, any-right
 use Rattle.rules.specs.Rules.{wordsOf}
 use Rattle.meaning.proofs.Decode.{pointCount, pointFrom, shapeAt}
 use Rattle.meaning.proofs.Ends.{nowhere}
-use Rattle.meaning.proofs.FiniteLaws.{finites-all, finites-true, finite-fit, finite-append, finite-front, finite-back, value-finite, finite-value}
+use Rattle.meaning.proofs.FiniteLaws.{finites-all, finites-true}
 use Rattle.meaning.proofs.Shaped.{Met, Shaped}
 
 pub same-twice : (a : Bool) → (a || a) ≡ true → a ≡ true

@@ -16,6 +16,7 @@ use Rattle.format.specs.Lengths
 use Rattle.format.specs.Shapes.{Point, Parts, parted, there, partsIn, pointsIn, PartsOf}
 use Rattle.format.specs.WellFormed.{leastPoints, AllFinite, PartsFine, PartsWellFormed, coordinates}
 use Rattle.format.proofs.ByteLaws.{AllBytes, length-leBytes}
+use Rattle.format.proofs.FiniteLaws.{finite-front, finite-back, measure-finite}
 use Rattle.format.proofs.OrderLaws.{both-true}
 use Rattle.format.proofs.Places.{Stands, join, le-stands}
 use Rattle.format.proofs.Runs.{numbers, run, run-stands, length-numbers, length-run}
@@ -24,7 +25,7 @@ use Rattle.format.proofs.Doubles.{measured, writeIf, there-read, z-right, m-rig
 use Rattle.format.proofs.Pairs.{pairs, length-pairs}
 use Rattle.format.proofs.Laid.{parts-words, partsDoubles, parts-laid, right-covers}
 use Rattle.rules.specs.Rules.{littleAt, wordsOf, pairsAt, held, finites, partsLong}
-use Rattle.meaning.proofs.FiniteLaws.{finites-all, finite-front, finite-back, measure-finite}
+use Rattle.meaning.proofs.FiniteLaws.{finites-all}
 use Rattle.meaning.proofs.Decode.{hasM, m-words, partsCount, partsFrom, partsAt, shapeAt, only-if}
 use Rattle.meaning.proofs.Ends.{endsAt, length-endsAt, starts-at, rise-of, at-point, parts-fine}
 use Rattle.meaning.proofs.Shaped.{Met, Shaped}

@@ -8,11 +8,11 @@ use lib.Dec.{leb, ltb, eqb, lit<}
 use lib.ListN.{length}
 use borrow.Author.Tests.{lt-ltb, le-ltb, le-leb, lt-leb, eq-eqb, ne-eqb, ltb-true, leb-true}
 use Rattle.format.specs.declared.kinds.Kind.{Kind}
-use Rattle.format.specs.Lengths.{Form, nothing, onePoint, parts, lengthsFor, fixedWords, pointWords, contentWords}
+use Rattle.format.specs.Lengths.{Form, nothing, onePoint, parts, lengthsFor, fixedWords, pointWords, contentWords, formulaWords}
 use Rattle.format.proofs.OrderLaws.{rest, okAt, noAt, on, stop, both-true}
 use Rattle.rules.specs.Rules.{Taken, bigAt, littleAt, held, wordsOf, P9, P10, P11, P13, headRules}
 use Rattle.pair.specs.Plans.{hasParts, pointsAlone}
-use Rattle.pair.specs.Verdicts.{headFault, formulaWords}
+use Rattle.pair.specs.Verdicts.{headFault}
 
 -- ---- P9
 

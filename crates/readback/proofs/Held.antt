@@ -5,8 +5,8 @@ use Prim.Native.Nat.{ℕ}
 use Rattle.format.specs.declared.kinds.Kind.{Kind}
 use Rattle.format.specs.Shapes.{Measure, Shape, null, point, parted}
 use Rattle.format.specs.WellFormed.{coordinates, valueFinite, measureFinite, WellFormed}
+use Rattle.format.proofs.FiniteLaws.{finite-fit}
 use Rattle.format.proofs.Laid.{boxDoubles}
-use Rattle.meaning.proofs.FiniteLaws.{finite-fit}
 use Rattle.readback.specs.Held.{valueHeld, measureHeld, Held}
 
 value-held : (o : Option ℕ) → valueFinite o → valueHeld o

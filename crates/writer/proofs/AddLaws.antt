@@ -23,7 +23,7 @@ use Rattle.writer.specs.declared.AddAnswer.the-variants.{Added, Size, Un
 use Rattle.writer.specs.Adding.{Lent, lentShape, recordOf, entryOf, heldBox, nextState, saidAdd, Adds}
 use Rattle.writer.specs.Boxes.{grown, ownBox}
 use Rattle.writer.specs.Judging.{naturalOf, wordsOf, isRefused, shapeBy, wordsBy, AllPassed, AllRefused, Ready, nextBy}
-use Rattle.writer.proofs.ShapeLaws.{lent-kind, lent-form, shape-is, agreed, words-are}
+use Rattle.writer.proofs.ShapeLaws.{lent-kind, lent-form, shape-is, words-are}
 use Rattle.writer.proofs.StateLaws.{Fine, fine, number-natural, words-natural}
 
 -- ---- a kind with z has m: one test over the table
@@ -61,7 +61,7 @@ module _ (s : State) (t : Lent) (out start entry : ℕ) (k : Kind) (w : Words) (
   shape = shape-is t k (p .shape .of-code)
 
   words : shapeWords (lentShape t) ≡ wordsBy k (t .counts)
-  words = ap shapeWords shape ∙ words-are k (t .box) (t .counts) (t .xy) (t .zs) (t .ms) (agreed k (t .counts) (t .xy) (t .zs) (t .ms) (p .shape .agrees))
+  words = ap shapeWords shape ∙ words-are k (t .box) (t .counts) (t .xy) (t .zs) (t .ms) (p .shape .agrees)
 
   pub starts : start ≤ out
   starts = omega (arith, p .shape .room)

@@ -13,7 +13,7 @@ use Rattle.format.specs.declared.lengths.Formula.{Formula}
 use Rattle.format.specs.declared.units.Words.{Words}
 use Rattle.format.specs.Kinds.{known, kindAt}
 use Rattle.format.specs.Encoding.{shapeWords}
-use Rattle.format.specs.Lengths.{Form, onePoint, parts, formOf, formula, contentWords, formAt}
+use Rattle.format.specs.Lengths.{Form, onePoint, parts, formOf, formula, contentWords, formAt, formulaWords}
 use Rattle.format.specs.Order.{first}
 use Rattle.format.specs.Said.{Said, gives, wrongSize, unknown, notTaken, mismatch, tables, long, roomBytes}
 use Rattle.format.specs.Shapes.{Shape, parted, sum, there}
@@ -134,10 +134,6 @@ JudgesKind s code (KindIs.Refused a) = KindRefused s code a
 
 abbrev pub tablesJudged : Kind → List ℕ → List Float → List Float → List Float → TablesJudged
 tablesJudged k counts xy zs ms = cond (agreeBy k counts xy zs ms) (Agree (pointsBy k counts)) Disagree
-
--- the words of a formula with p parts and n points
-abbrev pub formulaWords : Formula → ℕ → ℕ → ℕ
-formulaWords f p n = f .fixed + 2 * p + f .point * n
 
 abbrev pub lengthJudged : ℕ → Formula → ℕ → ℕ → LengthJudged
 lengthJudged words f p n =

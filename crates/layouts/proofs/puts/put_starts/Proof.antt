@@ -8,8 +8,9 @@ use lib.ListN.{length, getD, drop}
 use lib.Seq.{sets, drop-length}
 use Rattle.format.specs.Numbers.{little}
 use Rattle.format.specs.Shapes.{sum}
+use Rattle.format.proofs.LayoutLaws.{sum-drop}
 use Rattle.layouts.specs.Steps.{startsBytes}
-use Rattle.layouts.proofs.Turns.{sum-drop, starts-turn}
+use Rattle.layouts.proofs.Turns.{starts-turn}
 use Rattle.layouts.proofs.puts.put_starts.Statement.{statement}
 use Rattle.layouts.proofs.puts.put_starts.Tie as tie
 

@@ -8,10 +8,10 @@ use lib.Dec.{eqb}
 use borrow.Author.Needs.{needs}
 use lib.ListN.{length, drop}
 use borrow.Author.Tests.{not-true, not-false}
+use Rattle.format.specs.Lengths.{formulaWords}
 use Rattle.rules.specs.Rules.{wordsOf, littleAt}
 use Rattle.pair.specs.declared.plans.Plan.{Plan}
 use Rattle.pair.specs.Plans.{hasParts, takenFrom}
-use Rattle.pair.specs.Verdicts.{formulaWords}
 use Rattle.pair.proofs.HeadLaws.{few-alone, plain13, few13, parts13, points13, last13}
 use Rattle.pair.proofs.PlaceLaws.{big-drop, little-drop}
 use Rattle.pair.proofs.heads.sized.Statement.{statement}

@@ -2,7 +2,7 @@
 use mathlib.Core.Path.{ap, sym, _∙_}
 use borrow.Author.Needs.{needs}
 use Rattle.format.specs.Numbers.{finite}
-use Rattle.pair.proofs.FiniteLaws.{finite-bits}
+use Rattle.format.proofs.FiniteLaws.{finite-bits}
 use Rattle.pair.proofs.leaves.is_finite.Statement.{statement}
 use Rattle.pair.proofs.leaves.is_finite.Tie as tie
 

@@ -10,10 +10,10 @@ use Rattle.format.proofs.SignLaws.{back}
 use Rattle.multipart.specs.declared.CountsAnswer.{CountsAnswer}
 use Rattle.multipart.specs.declared.CountsAnswer.the-variants as CountsIs
 use Rattle.multipart.specs.Answers.{saidCounts, countsOf}
+use Rattle.multipart.proofs.NearLaws.{offset, counts-offset}
 use Rattle.record.specs.declared.sizes.Sized.{Sized}
 use Rattle.record.specs.declared.sizes.Sized.the-variants as SizedIs
 use Rattle.record.specs.Steps.{two, Sizes}
-use Rattle.record.proofs.NearLaws.{offset, counts-offset}
 use Rattle.record.proofs.PartsLaws.{answered, counts-short, counts-size, size-wrong, size-settles, reads-as}
 use Rattle.record.proofs.parts.read_parts.Statement.{statement}
 use Rattle.record.proofs.parts.read_parts.Tie as tie

@@ -9,7 +9,7 @@ use Rattle.format.proofs.SignLaws.{back}
 use Rattle.multipart.specs.declared.BodyAnswer.{BodyAnswer}
 use Rattle.multipart.specs.declared.BodyAnswer.the-variants as BodyIs
 use Rattle.multipart.specs.Answers.{saidBody}
-use Rattle.record.proofs.NearLaws.{offset, body-offset}
+use Rattle.multipart.proofs.NearLaws.{offset, body-offset}
 use Rattle.record.proofs.PartsLaws.{rest-reads}
 use Rattle.record.proofs.parts.read_rest.Statement.{statement}
 use Rattle.record.proofs.parts.read_rest.Tie as tie

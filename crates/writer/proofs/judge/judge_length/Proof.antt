@@ -7,13 +7,15 @@ use mir.ValLaws.{toZ-pos}
 use mir.Syntax.{w32}
 use borrow.Author.Needs.{needs}
 use Rattle.format.specs.declared.units.Words.{Words}
-use Rattle.writer.specs.Judging.{naturalOf, wordsOf, formulaWords}
-use Rattle.writer.proofs.LengthLaws.{counted-long, counted-held, long-parts, long-points, long-words, held-words}
+use Rattle.format.specs.Lengths.{formulaWords}
+use Rattle.format.proofs.LengthLaws.{counted-long, counted-held}
+use Rattle.writer.specs.Judging.{naturalOf, wordsOf}
+use Rattle.writer.proofs.LengthLaws.{long-parts, long-points, long-words, held-words}
 use Rattle.writer.proofs.judge.judge_length.Statement.{statement}
 use Rattle.writer.proofs.judge.judge_length.Tie as tie
 
 held : (c : tie.After-content) → let a = c .before .before .before .before .before .args in (formulaWords (a .f) (a .p) (a .n) < 2 ^ 31) × (c .content .given .0 .0 ≡ wordsOf (formulaWords (a .f) (a .p) (a .n)))
-held c = let a = c .before .before .before .before .before .args in counted-held (a .f) (a .p) (a .n) _ (sym (c .before .before .content-words .ensures) ∙ c .content .given .1)
+held c = let a = c .before .before .before .before .before .args in counted-held (a .f) (a .p) (a .n) _ (sym (c .content .given .1) ∙ c .before .before .content-words .ensures)
 
 natural-is : (c : tie.After-natural) → let a = c .before .before .before .before .before .before .before .before .args in c .natural .result ≡ formulaWords (a .f) (a .p) (a .n)
 natural-is c =
@@ -64,7 +66,7 @@ returns-4 : tie.Need-returns-4
 returns-4 c =
     let m = c .before .before in
     let a = m .before .before .before .args in
-    let h : 2 ^ 31 ≤ formulaWords (a .f) (a .p) (a .n) = counted-long (a .f) (a .p) (a .n) (sym (m .content-words .ensures) ∙ c .enum-told .given .1) in
+    let h : 2 ^ 31 ≤ formulaWords (a .f) (a .p) (a .n) = counted-long (a .f) (a .p) (a .n) (sym (c .enum-told .given .1) ∙ m .content-words .ensures) in
     long-words (a .f) (a .p) (a .n) (a .words) (omega arith) (omega arith) (omega arith)
 
 returns-5 : tie.Need-returns-5

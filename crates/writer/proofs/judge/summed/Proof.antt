@@ -5,7 +5,8 @@ use native.Mathlib.Omega.{arith}
 use lib.ListN.{length, drop}
 use borrow.Author.Needs.{needs}
 use Rattle.format.specs.Shapes.{sum}
-use Rattle.writer.proofs.LengthLaws.{sum-more, sum-end, over, within}
+use Rattle.format.proofs.LayoutLaws.{sum-drop}
+use Rattle.writer.proofs.LengthLaws.{sum-end, over, within}
 use Rattle.writer.proofs.judge.summed.Statement.{statement}
 use Rattle.writer.proofs.judge.summed.Tie as tie
 
@@ -37,7 +38,7 @@ returns : tie.Need-returns Inv-loop μ-loop
 returns c =
     let l = c .before .before .before in
     let n = l .before .args .counts .now in
-    let h : l .before .args .most < sum n = omega (arith, sum-more n (l .loop .i) (c .before .before .loop-test .taken), l .loop .inv .2) in
+    let h : l .before .args .most < sum n = omega (arith, sum-drop n (l .loop .i) (c .before .before .loop-test .taken), l .loop .inv .2) in
     over (sum n) (l .before .args .most) h
 
 add-i : tie.Need-add-i Inv-loop μ-loop
@@ -50,7 +51,7 @@ loop-again : tie.Need-loop-again Inv-loop μ-loop
 loop-again c =
     let l = c .before .before .before in
     let n = l .before .args .counts .now in
-    (omega arith, c .if1 .left, omega (arith, sum-more n (l .loop .i) (c .before .before .loop-test .taken), l .loop .inv .2))
+    (omega arith, c .if1 .left, omega (arith, sum-drop n (l .loop .i) (c .before .before .loop-test .taken), l .loop .inv .2))
 
 returns-2 : tie.Need-returns-2 Inv-loop μ-loop
 returns-2 c =

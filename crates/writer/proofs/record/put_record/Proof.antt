@@ -12,7 +12,7 @@ use Rattle.format.specs.Encoding.{shapeBytes, twoBig}
 use Rattle.format.specs.Numbers.{little, i32Le}
 use Rattle.writer.specs.Judging.{shapeBy, wordsBy}
 use Rattle.writer.proofs.BodyLaws.{words-least, record-is}
-use Rattle.writer.proofs.ShapeLaws.{agreed, words-are}
+use Rattle.writer.proofs.ShapeLaws.{words-are}
 use Rattle.writer.proofs.StoreLaws.{tail-stored, record-stored}
 use Rattle.writer.proofs.record.put_record.Statement.{statement}
 use Rattle.writer.proofs.record.put_record.Tie as tie
@@ -59,7 +59,7 @@ returns c =
     (tail-stored 12 (q .put-le-i32 .last .0) (r .put-body .last .0) (shapeBytes shape) (r .put-body .ensures))
     ∙ ap (λ (l : List ℕ). sets (a .out .now) 0 l)
     (record-is (a .k) shape (ofZ w32 (a .number)) (wordsBy (a .k) (a .counts .now)) (a .content) (a .code) (s .pre .1 .1 .1)
-    (words-are (a .k) (a .bbox) (a .counts .now) (a .xy .now) (a .zs .now) (a .ms .now) (agreed (a .k) (a .counts .now) (a .xy .now) (a .zs .now) (a .ms .now) (s .pre .0 .agrees)))
+    (words-are (a .k) (a .bbox) (a .counts .now) (a .xy .now) (a .zs .now) (a .ms .now) (s .pre .0 .agrees))
     (s .pre .1 .1 .0))
 
 pub put-record-spec : {M : Type 1} → statement M
