@@ -85,7 +85,6 @@ some-kind (some k) e = refl
 
 pub record Fine (s : State) : Type 0 where
   pub words-is : s .words .0 ≡ pos (natAbs (s .words .0))
-  pub words-least : 50 ≤ natAbs (s .words .0)
   pub number-is : s .number ≡ pos (natAbs (s .number))
   pub number-least : 1 ≤ natAbs (s .number)
   pub room : 50 + 6 * (natAbs (s .number) - 1) ≤ natAbs (s .words .0)
@@ -104,7 +103,6 @@ fine s e =
     let k = kind-pos (s .kind) (p2 .1) in
     record {
       words-is = w .0;
-      words-least = w .1;
       number-is = n .0;
       number-least = n .1;
       room = leb-true _ _ (p3 .1);
