@@ -5,15 +5,11 @@ use borrow.Author.Needs.{needs}
 use Rattle.fields.proofs.be_i32_at.Statement.{statement}
 use Rattle.fields.proofs.be_i32_at.Tie as tie
 
-be-number-requires : tie.Need-be-number-requires
-be-number-requires c κs = search needs
-
-signed-requires : tie.Need-signed-requires
-signed-requires c κs = search needs
-
 returns : tie.Need-returns
 unfolding beI32
 returns c = cc (back w32 (c .signed .result) (c .signed .ok))
 
 pub be-i32-at-spec : {M : Type 1} → statement M
-be-i32-at-spec = tie.close (tie.spec be-number-requires signed-requires returns)
+be-i32-at-spec = tie.close (tie.spec (λ c κs. search needs)
+    (λ c κs. search needs)
+    returns)

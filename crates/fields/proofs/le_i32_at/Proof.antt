@@ -5,15 +5,11 @@ use borrow.Author.Needs.{needs}
 use Rattle.fields.proofs.le_i32_at.Statement.{statement}
 use Rattle.fields.proofs.le_i32_at.Tie as tie
 
-le-number-requires : tie.Need-le-number-requires
-le-number-requires c κs = search needs
-
-signed-requires : tie.Need-signed-requires
-signed-requires c κs = search needs
-
 returns : tie.Need-returns
 unfolding leI32
 returns c = cc (back w32 (c .signed .result) (c .signed .ok))
 
 pub le-i32-at-spec : {M : Type 1} → statement M
-le-i32-at-spec = tie.close (tie.spec le-number-requires signed-requires returns)
+le-i32-at-spec = tie.close (tie.spec (λ c κs. search needs)
+    (λ c κs. search needs)
+    returns)

@@ -13,9 +13,6 @@ inside c = rw (c .if1 .taken) at (c .before .before .pre)
 le-f64-at-requires : tie.Need-le-f64-at-requires
 le-f64-at-requires c κs = omega (arith, inside c)
 
-add-le-f64-at : tie.Need-add-le-f64-at
-add-le-f64-at c = search needs
-
 le-f64-at-requires-2 : tie.Need-le-f64-at-requires-2
 le-f64-at-requires-2 c κs = omega (arith, inside (c .before))
 
@@ -27,4 +24,8 @@ returns-2 c = rw (c .if1 .left, zero-bits)
 
 pub range-at-spec : {M : Type 1} → statement M
 range-at-spec =
-    tie.close (tie.spec le-f64-at-requires add-le-f64-at le-f64-at-requires-2 returns returns-2)
+    tie.close (tie.spec le-f64-at-requires
+    (λ c. search needs)
+    le-f64-at-requires-2
+    returns
+    returns-2)

@@ -16,39 +16,18 @@ there c = rw length-drop (c .if1 .left)
 offset-is : (c : tie.After-big) → bigAt 0 (drop (c .before .before .before .before .args .ix) (c .before .before .before .before .args .shx .now)) ≡ c .big .result
 offset-is c = big-here (c .before .before .before .before .args .ix) (c .before .before .before .before .args .shx .now) ∙ sym (c .big .ensures .value)
 
-sub-if1 : tie.Need-sub-if1
-sub-if1 c = search needs
-
 returns : tie.Need-returns
 returns c = let a = c .before .before .before .args in none11 _ (drop (a .ix) (a .shx .now)) (a .at) (rw length-drop (c .if1 .taken))
-
-big-requires : tie.Need-big-requires
-big-requires c κs = search needs
 
 returns-2 : tie.Need-returns-2
 returns-2 c =
     let d = c .before in
     negative11 _ (drop (d .before .before .before .before .args .ix) (d .before .before .before .before .args .shx .now)) _ (there (d .before)) (rw (offset-is d) (c .if2 .taken))
 
-in-bytes-requires : tie.Need-in-bytes-requires
-in-bytes-requires c κs = search needs
-
 returns-3 : tie.Need-returns-3
 returns-3 c =
     let d = c .before .before .before in
     offset11 _ (drop (d .before .before .before .before .args .ix) (d .before .before .before .before .args .shx .now)) _ (there (d .before)) (rw (offset-is d) (c .before .before .if2 .left)) (λ e. c .if3 .taken (c .before .in-bytes .ensures ∙ (ap (λ n. 2 * n) (sym (offset-is d)) ∙ e)))
-
-add-big : tie.Need-add-big
-add-big c = search needs
-
-big-requires-2 : tie.Need-big-requires-2
-big-requires-2 c κs = search needs
-
-add-big-2 : tie.Need-add-big-2
-add-big-2 c = search needs
-
-big-requires-3 : tie.Need-big-requires-3
-big-requires-3 c κs = search needs
 
 returns-4 : tie.Need-returns-4
 returns-4 c =
@@ -61,14 +40,14 @@ pub indexed-spec : {M : Type 1} → statement M
 indexed-spec =
     tie.close
     (tie.spec
-    sub-if1
+    (λ c. search needs)
     returns
-    big-requires
+    (λ c κs. search needs)
     returns-2
-    in-bytes-requires
+    (λ c κs. search needs)
     returns-3
-    add-big
-    big-requires-2
-    add-big-2
-    big-requires-3
+    (λ c. search needs)
+    (λ c κs. search needs)
+    (λ c. search needs)
+    (λ c κs. search needs)
     returns-4)

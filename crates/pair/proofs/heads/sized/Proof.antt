@@ -43,12 +43,6 @@ n-is c =
 abbrev by-plan : Plan → ℕ → ℕ → ℕ → Bool
 by-plan plan p n words = eqb words (formulaWords (plan .lengths .without) p n) || eqb words (formulaWords (plan .lengths .with) p n)
 
-add-big : tie.Need-add-big
-add-big c = search needs
-
-big-requires : tie.Need-big-requires
-big-requires c κs = search needs
-
 measures-requires : tie.Need-measures-requires
 measures-requires c κs =
     let s = c .before .before .before .before .before in
@@ -108,8 +102,8 @@ pub sized-spec : {M : Type 1} → statement M
 sized-spec =
     tie.close
     (tie.spec
-    add-big
-    big-requires
+    (λ c. search needs)
+    (λ c κs. search needs)
     measures-requires
     returns
     returns-2

@@ -31,15 +31,6 @@ kind-here c = kind-at _ _ _ (kind-found (c .before .before)) (c .enum-told .give
 content-found : (c : tie.After-lengths-of) → c .lengths-of .result ≡ contentOf (natAbs (c .before .before .before .before .args .code))
 content-found c = c .lengths-of .ensures ∙ ap (λ (z : ℤ). contentOf (natAbs z)) (code-back (c .before .before .before .before))
 
-find-kind-requires : tie.Need-find-kind-requires
-find-kind-requires c κs = search needs
-
-enum-told : tie.Need-enum-told
-enum-told c = search needs
-
-enum-told-2 : tie.Need-enum-told-2
-enum-told-2 c = search needs
-
 returns : tie.Need-returns
 returns c =
     let s = c .before .before .before in
@@ -49,15 +40,6 @@ cast-lengths-of : tie.Need-cast-lengths-of
 cast-lengths-of c =
     let s = c .before .before .before in
     known-casts (s .args .code) _ (kind-here c) (s .fits .code)
-
-lengths-of-requires : tie.Need-lengths-of-requires
-lengths-of-requires c κs = search needs
-
-enum-told-3 : tie.Need-enum-told-3
-enum-told-3 c = search needs
-
-enum-told-4 : tie.Need-enum-told-4
-enum-told-4 c = search needs
 
 returns-2 : tie.Need-returns-2
 returns-2 c =
@@ -84,14 +66,14 @@ pub judge-code-spec : {M : Type 1} → statement M
 judge-code-spec =
     tie.close
     (tie.spec
-    find-kind-requires
-    enum-told
-    enum-told-2
+    (λ c κs. search needs)
+    (λ c. search needs)
+    (λ c. search needs)
     returns
     cast-lengths-of
-    lengths-of-requires
-    enum-told-3
-    enum-told-4
+    (λ c κs. search needs)
+    (λ c. search needs)
+    (λ c. search needs)
     returns-2
     returns-3
     returns-4)

@@ -16,12 +16,6 @@ use Rattle.record.proofs.front.judge_match.Tie as tie
 code-fits : (c : tie.After-known-told) → SFits w32 (c .before .wanted .given .0 .0)
 code-fits c = record { sfits = c .known-told .given .0 .1 }
 
-enum-told : tie.Need-enum-told
-enum-told c = search needs
-
-enum-known-wanted : tie.Need-enum-known-wanted
-enum-known-wanted c = search needs
-
 returns : tie.Need-returns
 returns c = subst (λ (w : Wanted). Passes (mismatchTests w (c .before .before .args .found))) (sym (c .enum-told .given .1)) (λ a. refl)
 
@@ -42,4 +36,8 @@ returns-3 c =
     (mismatched z (s .args .found) (bits-differ z (s .args .found) (c .if1 .left))))
 
 pub judge-match-spec : {M : Type 1} → statement M
-judge-match-spec = tie.close (tie.spec enum-told enum-known-wanted returns returns-2 returns-3)
+judge-match-spec = tie.close (tie.spec (λ c. search needs)
+    (λ c. search needs)
+    returns
+    returns-2
+    returns-3)

@@ -35,27 +35,6 @@ returns c = let a = c .before .args in long-parts (a .f) (a .p) (a .n) (a .words
 returns-2 : tie.Need-returns-2
 returns-2 c = let a = c .before .before .args in long-points (a .f) (a .p) (a .n) (a .words) (omega arith) (omega arith)
 
-cast-content-words : tie.Need-cast-content-words
-cast-content-words c = search needs
-
-cast-content-words-2 : tie.Need-cast-content-words-2
-cast-content-words-2 c = search needs
-
-content-words-requires : tie.Need-content-words-requires
-content-words-requires c κs = search needs
-
-enum-told : tie.Need-enum-told
-enum-told c = search needs
-
-enum-known-content : tie.Need-enum-known-content
-enum-known-content c = search needs
-
-natural-requires : tie.Need-natural-requires
-natural-requires c κs = search needs
-
-words-after-requires : tie.Need-words-after-requires
-words-after-requires c κs = search needs
-
 returns-3 : tie.Need-returns-3
 returns-3 c =
     let a = c .before .before .before .before .before .before .before .before .before .before .args in
@@ -81,13 +60,13 @@ judge-length-spec =
     (tie.spec
     returns
     returns-2
-    cast-content-words
-    cast-content-words-2
-    content-words-requires
-    enum-told
-    enum-known-content
-    natural-requires
-    words-after-requires
+    (λ c. search needs)
+    (λ c. search needs)
+    (λ c κs. search needs)
+    (λ c. search needs)
+    (λ c. search needs)
+    (λ c κs. search needs)
+    (λ c κs. search needs)
     returns-3
     returns-4
     returns-5)
