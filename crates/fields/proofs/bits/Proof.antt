@@ -12,6 +12,4 @@ returns : tie.Need-returns
 returns c = sym (ap (toBits binary64) (differs-nan (c .before .args .x) (c .if1 .taken)) ∙ nan-bits)
 
 pub bits-spec : {M : Type 1} → statement M
-bits-spec = tie.close (tie.spec float-to-bits-result
-    returns
-    (λ c. search needs))
+bits-spec = tie.close (tie.spec float-to-bits-result returns (λ c. search needs))

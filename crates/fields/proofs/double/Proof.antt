@@ -12,6 +12,4 @@ returns : tie.Need-returns
 returns c = zero-by-zero ∙ sym (nan-pattern binary64 (c .before .args .n) (c .if1 .taken))
 
 pub double-spec : {M : Type 1} → statement M
-double-spec = tie.close (tie.spec float-from-bits-result
-    returns
-    (λ c. search needs))
+double-spec = tie.close (tie.spec float-from-bits-result returns (λ c. search needs))

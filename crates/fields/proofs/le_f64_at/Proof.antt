@@ -8,6 +8,4 @@ unfolding leF64
 returns c = cc
 
 pub le-f64-at-spec : {M : Type 1} → statement M
-le-f64-at-spec = tie.close (tie.spec (λ c κs. search needs)
-    (λ c κs. search needs)
-    returns)
+le-f64-at-spec = tie.close (tie.spec (λ c κs. search needs) (λ c κs. search needs) returns)

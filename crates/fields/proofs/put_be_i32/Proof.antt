@@ -12,7 +12,5 @@ returns c =
     cc (back w32 (a .args .z) (a .fits .z .sfits))
 
 pub put-be-i32-spec : {M : Type 1} → statement M
-put-be-i32-spec = tie.close (tie.spec (λ c κs. search needs)
-    (λ c κs. search needs)
-    (λ c. search needs)
-    returns)
+put-be-i32-spec =
+    tie.close (tie.spec (λ c κs. search needs) (λ c κs. search needs) (λ c. search needs) returns)

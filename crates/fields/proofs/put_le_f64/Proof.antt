@@ -8,7 +8,5 @@ unfolding f64Le double
 returns c = cc
 
 pub put-le-f64-spec : {M : Type 1} → statement M
-put-le-f64-spec = tie.close (tie.spec (λ c κs. search needs)
-    (λ c κs. search needs)
-    (λ c. search needs)
-    returns)
+put-le-f64-spec =
+    tie.close (tie.spec (λ c κs. search needs) (λ c κs. search needs) (λ c. search needs) returns)

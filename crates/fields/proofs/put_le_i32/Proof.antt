@@ -12,7 +12,5 @@ returns c =
     cc (back w32 (a .args .z) (a .fits .z .sfits))
 
 pub put-le-i32-spec : {M : Type 1} → statement M
-put-le-i32-spec = tie.close (tie.spec (λ c κs. search needs)
-    (λ c κs. search needs)
-    (λ c. search needs)
-    returns)
+put-le-i32-spec =
+    tie.close (tie.spec (λ c κs. search needs) (λ c κs. search needs) (λ c. search needs) returns)

@@ -14,7 +14,10 @@ returns-2 c =
     ap (toZ w32) e
 
 pub signed-spec : {M : Type 1} → statement M
-signed-spec = tie.close (tie.spec (λ c. search needs)
+signed-spec =
+    tie.close
+    (tie.spec
+    (λ c. search needs)
     (λ c. search needs)
     (λ c. search needs)
     (λ c. search needs)

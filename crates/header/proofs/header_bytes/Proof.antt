@@ -33,7 +33,8 @@ returns-2 c =
 pub header-bytes-spec : {M : Type 1} → statement M
 header-bytes-spec =
     tie.close
-    (tie.spec (λ c κs. search needs)
+    (tie.spec
+    (λ c κs. search needs)
     (λ c. search needs)
     (λ c. search needs)
     returns

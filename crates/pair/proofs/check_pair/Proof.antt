@@ -27,5 +27,4 @@ returns c =
     }
 
 pub check-pair-spec : {M : Type 1} → statement M
-check-pair-spec = tie.close (tie.spec (λ c κs. search needs)
-    returns)
+check-pair-spec = tie.close (tie.spec (λ c κs. search needs) returns)

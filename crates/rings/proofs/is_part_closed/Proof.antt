@@ -1,6 +1,6 @@
 -- `rings::is_part_closed` meets its contract: a run with a point is closed just where the two comparisons of its ends pass.
-use mathlib.Core.Path.{_≡_, _∙_}
-use mathlib.Core.Bool.{Bool, true, false}
+use mathlib.Core.Path.{_≡_, ap₂, _∙_}
+use mathlib.Core.Bool.{Bool, true, false, _&&_}
 use borrow.Author.Needs.{needs}
 use Rattle.format.specs.Said.{gives}
 use Rattle.rings.specs.Answers.{closedOf}
@@ -28,12 +28,12 @@ compared c b e =
 returns-3 : tie.Need-returns-3
 returns-3 c =
     let d = c .before .before .before in
-    compared (d .before .before .before) true (rw (d .if3 .taken, c .if4 .taken))
+    compared (d .before .before .before) true (ap₂ _&&_ (d .if3 .taken) (c .if4 .taken))
 
 returns-4 : tie.Need-returns-4
 returns-4 c =
     let d = c .before .before .before in
-    compared (d .before .before .before) false (rw (d .if3 .taken, c .if4 .left))
+    compared (d .before .before .before) false (ap₂ _&&_ (d .if3 .taken) (c .if4 .left))
 
 returns-5 : tie.Need-returns-5
 returns-5 c = compared (c .before .before .before) false (rw (c .if3 .left))

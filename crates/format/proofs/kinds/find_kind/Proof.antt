@@ -43,7 +43,8 @@ returns-3 c = kind-out _ (not-neg (c .before)) (c .before .row-of .result) (row-
 pub find-kind-spec : {M : Type 1} → statement M
 find-kind-spec =
     tie.close
-    (tie.spec returns
+    (tie.spec
+    returns
     cast-row-of
     (λ c κs. search needs)
     (λ c. search needs)

@@ -15,8 +15,4 @@ returns-2 c = content-out _ (c .before .row-of .result) (c .before .row-of .ensu
 
 pub lengths-of-spec : {M : Type 1} → statement M
 lengths-of-spec =
-    tie.close (tie.spec (λ c κs. search needs)
-    (λ c. search needs)
-    (λ c. search needs)
-    returns
-    returns-2)
+    tie.close (tie.spec (λ c κs. search needs) (λ c. search needs) (λ c. search needs) returns returns-2)

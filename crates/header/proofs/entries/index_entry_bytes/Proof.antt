@@ -25,5 +25,4 @@ returns c =
     ∙ ap₂ (λ (x y : ℤ). i32Be x ++ i32Be y) (toZ-ofZ w32 _ (first-fits a)) (toZ-ofZ w32 _ (second-fits a))
 
 pub index-entry-bytes-spec : {M : Type 1} → statement M
-index-entry-bytes-spec = tie.close (tie.spec (λ c κs. search needs)
-    returns)
+index-entry-bytes-spec = tie.close (tie.spec (λ c κs. search needs) returns)

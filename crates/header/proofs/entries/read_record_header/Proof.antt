@@ -22,8 +22,4 @@ returns-3 c =
 
 pub read-record-header-spec : {M : Type 1} → statement M
 read-record-header-spec =
-    tie.close (tie.spec returns
-    returns-2
-    (λ c κs. search needs)
-    (λ c κs. search needs)
-    returns-3)
+    tie.close (tie.spec returns returns-2 (λ c κs. search needs) (λ c κs. search needs) returns-3)

@@ -16,7 +16,8 @@ returns-3 c = measure-none _ _ _ _ (c .before .pre .0) (c .if1 .left)
 pub judge-measure-spec : {M : Type 1} → statement M
 judge-measure-spec =
     tie.close
-    (tie.spec (λ c. search needs)
+    (tie.spec
+    (λ c. search needs)
     (λ c. search needs)
     (λ c. search needs)
     (λ c. search needs)

@@ -25,8 +25,5 @@ returns-2 : tie.Need-returns-2
 returns-2 c = rw (no-count _ _ (told (c .before .before) Is.Size (c .enum-told .given .1)))
 
 pub count-at-spec : {M : Type 1} → statement M
-count-at-spec = tie.close (tie.spec (λ c κs. search needs)
-    (λ c. search needs)
-    (λ c. search needs)
-    returns
-    returns-2)
+count-at-spec =
+    tie.close (tie.spec (λ c κs. search needs) (λ c. search needs) (λ c. search needs) returns returns-2)

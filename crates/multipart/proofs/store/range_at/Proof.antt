@@ -24,8 +24,4 @@ returns-2 c = rw (c .if1 .left, zero-bits)
 
 pub range-at-spec : {M : Type 1} → statement M
 range-at-spec =
-    tie.close (tie.spec le-f64-at-requires
-    (λ c. search needs)
-    le-f64-at-requires-2
-    returns
-    returns-2)
+    tie.close (tie.spec le-f64-at-requires (λ c. search needs) le-f64-at-requires-2 returns returns-2)

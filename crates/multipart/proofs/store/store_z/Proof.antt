@@ -16,7 +16,9 @@ returns c = rw (c .before .before .before .before .if1 .taken) (c .before .befor
 
 pub store-z-spec : {M : Type 1} → statement M
 store-z-spec =
-    tie.close (tie.spec (λ c. search needs)
+    tie.close
+    (tie.spec
+    (λ c. search needs)
     store-doubles-requires
     (λ c. search needs)
     returns

@@ -27,8 +27,4 @@ returns-4 c =
     rw (le-leb 100 _ (d .before .if1 .left), le-leb 100 _ (d .if2 .left), sym (c .before .starts-right .ensures) ∙ not-false _ (c .if3 .left))
 
 pub front-fault-spec : {M : Type 1} → statement M
-front-fault-spec = tie.close (tie.spec returns
-    returns-2
-    (λ c κs. search needs)
-    returns-3
-    returns-4)
+front-fault-spec = tie.close (tie.spec returns returns-2 (λ c κs. search needs) returns-3 returns-4)

@@ -12,8 +12,4 @@ returns-2 : tie.Need-returns-2
 returns-2 c = rw (sym (c .before .before .same-bytes .ensures) ∙ not-false _ (c .before .if1 .left)) (c .same-bytes2 .ensures)
 
 pub headers-agree-spec : {M : Type 1} → statement M
-headers-agree-spec =
-    tie.close (tie.spec (λ c κs. search needs)
-    returns
-    (λ c κs. search needs)
-    returns-2)
+headers-agree-spec = tie.close (tie.spec (λ c κs. search needs) returns (λ c κs. search needs) returns-2)

@@ -12,7 +12,4 @@ returns-2 : tie.Need-returns-2
 returns-2 c = rw (sym (c .before .length-right .ensures) ∙ not-false _ (c .if1 .left))
 
 pub index-sized-spec : {M : Type 1} → statement M
-index-sized-spec = tie.close (tie.spec (λ c κs. search needs)
-    returns
-    (λ c. search needs)
-    returns-2)
+index-sized-spec = tie.close (tie.spec (λ c κs. search needs) returns (λ c. search needs) returns-2)

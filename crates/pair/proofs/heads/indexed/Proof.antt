@@ -1,7 +1,8 @@
 -- `pair::heads::indexed` meets its contract: by the entry that the index has at the place.
-use mathlib.Core.Path.{_≡_, sym, ap, _∙_}
+use mathlib.Core.Path.{_≡_, sym, ap, ap₂, _∙_}
 use borrow.Author.Needs.{needs}
 use Prim.Native.Nat.{_*_, _≤_}
+use lib.Dec.{eqb}
 use lib.ListN.{length, drop, length-drop}
 use Rattle.rules.specs.Rules.{bigAt}
 use Rattle.pair.proofs.HeadLaws.{none11, negative11, offset11, last11}
@@ -33,8 +34,8 @@ returns-4 : tie.Need-returns-4
 returns-4 c =
     let d = c .before .before .before .before .before in
     let a = d .before .before .before .before .args in
-    rw (c .before .big2 .ensures .value, c .big3 .ensures .value, ← big-drop (a .ix) (a .shx .now) 4, ← big-drop (a .at) (a .shp .now) 4)
-    (last11 _ (drop (a .ix) (a .shx .now)) _ (there (d .before)) (rw (offset-is d) (c .before .before .before .before .if2 .left)) (ap (λ n. 2 * n) (offset-is d) ∙ (sym (c .before .before .before .in-bytes .ensures) ∙ c .before .before .if3 .left)))
+    ap₂ eqb (c .before .big2 .ensures .value ∙ sym (big-drop (a .ix) (a .shx .now) 4)) (c .big3 .ensures .value ∙ sym (big-drop (a .at) (a .shp .now) 4))
+    ∙ last11 _ (drop (a .ix) (a .shx .now)) _ (there (d .before)) (rw (offset-is d) (c .before .before .before .before .if2 .left)) (ap (λ n. 2 * n) (offset-is d) ∙ (sym (c .before .before .before .in-bytes .ensures) ∙ c .before .before .if3 .left))
 
 pub indexed-spec : {M : Type 1} → statement M
 indexed-spec =

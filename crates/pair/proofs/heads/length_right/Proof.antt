@@ -11,7 +11,4 @@ returns-2 : tie.Need-returns-2
 returns-2 c = rw (← c .before .before .big .ensures .value, lt-ltb _ _ (c .before .if1 .left), c .in-bytes .ensures)
 
 pub length-right-spec : {M : Type 1} → statement M
-length-right-spec = tie.close (tie.spec (λ c κs. search needs)
-    returns
-    (λ c κs. search needs)
-    returns-2)
+length-right-spec = tie.close (tie.spec (λ c κs. search needs) returns (λ c κs. search needs) returns-2)

@@ -11,7 +11,4 @@ returns-2 : tie.Need-returns-2
 returns-2 c = rw (sym (c .before .before .before .gives .ensures) ∙ c .before .before .if1 .left) (c .gives2 .ensures)
 
 pub measures-spec : {M : Type 1} → statement M
-measures-spec = tie.close (tie.spec (λ c κs. search needs)
-    returns
-    (λ c κs. search needs)
-    returns-2)
+measures-spec = tie.close (tie.spec (λ c κs. search needs) returns (λ c κs. search needs) returns-2)

@@ -23,8 +23,4 @@ returns-3 c =
     last9 (drop (a .at) (a .shp .now)) (a .k) (rw length-drop (c .before .before .if1 .left)) (big-here (a .at) (a .shp .now) ∙ (sym r ∙ c .if2 .left))
 
 pub numbered-spec : {M : Type 1} → statement M
-numbered-spec = tie.close (tie.spec (λ c. search needs)
-    returns
-    (λ c κs. search needs)
-    returns-2
-    returns-3)
+numbered-spec = tie.close (tie.spec (λ c. search needs) returns (λ c κs. search needs) returns-2 returns-3)

@@ -17,7 +17,8 @@ returns-3 c = rw (← c .before .before .before .before .big .ensures .value, eq
 pub starts-right-spec : {M : Type 1} → statement M
 starts-right-spec =
     tie.close
-    (tie.spec (λ c κs. search needs)
+    (tie.spec
+    (λ c κs. search needs)
     returns
     (λ c κs. search needs)
     returns-2

@@ -1,4 +1,7 @@
 -- `pair::leaves::closed` meets its contract: x decides where it differs, and else y.
+use mathlib.Core.Path.{sym, ap₂, _∙_}
+use mathlib.Core.Bool.{Bool, _&&_}
+use lib.Ieee.{eq}
 use borrow.Author.Needs.{needs}
 use Rattle.format.specs.Numbers.{leF64}
 use Rattle.pair.proofs.leaves.closed.Statement.{statement}
@@ -8,7 +11,7 @@ returns : tie.Need-returns
 unfolding leF64
 returns c =
     let d = c .before .before in
-    rw (← c .before .le-f64-at3 .ensures, ← c .le-f64-at4 .ensures, ← d .before .before .le-f64-at .ensures, ← d .before .le-f64-at2 .ensures, d .if1 .taken)
+    ap₂ (λ (x y : Bool). x && y) (sym (d .if1 .taken) ∙ ap₂ eq (d .before .before .le-f64-at .ensures) (d .before .le-f64-at2 .ensures)) (ap₂ eq (c .before .le-f64-at3 .ensures) (c .le-f64-at4 .ensures))
 
 returns-2 : tie.Need-returns-2
 unfolding leF64

@@ -14,7 +14,4 @@ returns : tie.Need-returns
 returns c = ap natAbs (doubled _ _ (c .before .before .before .pre) (c .before .before .to-bytes .ensures))
 
 pub in-bytes-spec : {M : Type 1} → statement M
-in-bytes-spec = tie.close (tie.spec (λ c. search needs)
-    (λ c κs. search needs)
-    cast-result
-    returns)
+in-bytes-spec = tie.close (tie.spec (λ c. search needs) (λ c κs. search needs) cast-result returns)

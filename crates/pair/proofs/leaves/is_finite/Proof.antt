@@ -10,5 +10,4 @@ returns : tie.Need-returns
 returns c = sym (finite-bits (c .le-number .result)) ∙ ap finite (c .le-number .ensures .0)
 
 pub is-finite-spec : {M : Type 1} → statement M
-is-finite-spec = tie.close (tie.spec (λ c κs. search needs)
-    returns)
+is-finite-spec = tie.close (tie.spec (λ c κs. search needs) returns)

@@ -17,8 +17,4 @@ returns : tie.Need-returns
 returns c = rw (c .if1 .taken)
 
 pub back-doubles-spec : {M : Type 1} → statement M
-back-doubles-spec = tie.close (tie.spec sub-result
-    mul-result
-    sub-result-2
-    returns
-    (λ c. search needs))
+back-doubles-spec = tie.close (tie.spec sub-result mul-result sub-result-2 returns (λ c. search needs))

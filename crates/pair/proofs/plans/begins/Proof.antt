@@ -18,8 +18,4 @@ returns-2 : tie.Need-returns-2
 returns-2 c = rw (c .before .before .if1 .taken, le-leb 1 _ (c .before .if2 .left), c .little .ensures .value)
 
 pub begins-spec : {M : Type 1} → statement M
-begins-spec = tie.close (tie.spec returns
-    add-little
-    little-requires
-    returns-2
-    (λ c. search needs))
+begins-spec = tie.close (tie.spec returns add-little little-requires returns-2 (λ c. search needs))

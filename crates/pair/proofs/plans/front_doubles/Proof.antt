@@ -7,6 +7,4 @@ returns-2 : tie.Need-returns-2
 returns-2 c = rw (c .if1 .left)
 
 pub front-doubles-spec : {M : Type 1} → statement M
-front-doubles-spec = tie.close (tie.spec (λ c. search needs)
-    (λ c. search needs)
-    returns-2)
+front-doubles-spec = tie.close (tie.spec (λ c. search needs) (λ c. search needs) returns-2)

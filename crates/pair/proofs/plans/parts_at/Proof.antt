@@ -14,7 +14,4 @@ returns : tie.Need-returns
 returns c = rw (c .before .if1 .taken) (c .little .ensures)
 
 pub parts-at-spec : {M : Type 1} → statement M
-parts-at-spec = tie.close (tie.spec add-little
-    little-requires
-    returns
-    (λ c. search needs))
+parts-at-spec = tie.close (tie.spec add-little little-requires returns (λ c. search needs))

@@ -27,7 +27,8 @@ returns-2 c =
 pub judge-front-spec : {M : Type 1} → statement M
 judge-front-spec =
     tie.close
-    (tie.spec (λ c κs. search needs)
+    (tie.spec
+    (λ c κs. search needs)
     (λ c. search needs)
     (λ c. search needs)
     (λ c κs. search needs)

@@ -36,8 +36,4 @@ returns-3 c =
     (mismatched z (s .args .found) (bits-differ z (s .args .found) (c .if1 .left))))
 
 pub judge-match-spec : {M : Type 1} → statement M
-judge-match-spec = tie.close (tie.spec (λ c. search needs)
-    (λ c. search needs)
-    returns
-    returns-2
-    returns-3)
+judge-match-spec = tie.close (tie.spec (λ c. search needs) (λ c. search needs) returns returns-2 returns-3)

@@ -23,8 +23,4 @@ returns-2 c =
 
 pub judge-wanted-spec : {M : Type 1} → statement M
 judge-wanted-spec =
-    tie.close (tie.spec (λ c. search needs)
-    (λ c. search needs)
-    (λ c κs. search needs)
-    returns
-    returns-2)
+    tie.close (tie.spec (λ c. search needs) (λ c. search needs) (λ c κs. search needs) returns returns-2)

@@ -33,10 +33,4 @@ returns-4 c =
 
 pub judge-size-spec : {M : Type 1} → statement M
 judge-size-spec =
-    tie.close
-    (tie.spec (λ c κs. search needs)
-    returns
-    returns-2
-    (λ c κs. search needs)
-    returns-3
-    returns-4)
+    tie.close (tie.spec (λ c κs. search needs) returns returns-2 (λ c κs. search needs) returns-3 returns-4)

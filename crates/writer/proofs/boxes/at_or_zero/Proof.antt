@@ -13,7 +13,4 @@ returns-2 : tie.Need-returns-2
 returns-2 c = let a = c .before .args in zero-is ∙ sym (List·getD-eq-default (a .s .now) _ (c .if1 .left))
 
 pub at-or-zero-spec : {M : Type 1} → statement M
-at-or-zero-spec = tie.close (tie.spec (λ c. search needs)
-    (λ c. search needs)
-    returns
-    returns-2)
+at-or-zero-spec = tie.close (tie.spec (λ c. search needs) (λ c. search needs) returns returns-2)

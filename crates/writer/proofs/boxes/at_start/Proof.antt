@@ -10,7 +10,4 @@ returns-2 : tie.Need-returns-2
 returns-2 c = rw (← c .before .double .ensures, c .if1 .left)
 
 pub at-start-spec : {M : Type 1} → statement M
-at-start-spec = tie.close (tie.spec (λ c κs. search needs)
-    (λ c κs. search needs)
-    returns
-    returns-2)
+at-start-spec = tie.close (tie.spec (λ c κs. search needs) (λ c κs. search needs) returns returns-2)

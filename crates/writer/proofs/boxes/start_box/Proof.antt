@@ -7,6 +7,4 @@ returns : tie.Need-returns
 returns c = cc
 
 pub start-box-spec : {M : Type 1} → statement M
-start-box-spec = tie.close (tie.spec (λ c κs. search needs)
-    (λ c κs. search needs)
-    returns)
+start-box-spec = tie.close (tie.spec (λ c κs. search needs) (λ c κs. search needs) returns)

@@ -8,5 +8,4 @@ returns-2 : tie.Need-returns-2
 returns-2 c = rw (c .if1 .left) zero-is
 
 pub where-set-spec : {M : Type 1} → statement M
-where-set-spec = tie.close (tie.spec (λ c. search needs)
-    returns-2)
+where-set-spec = tie.close (tie.spec (λ c. search needs) returns-2)

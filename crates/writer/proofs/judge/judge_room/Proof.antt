@@ -31,8 +31,4 @@ returns-4 c =
     has-room (a .size) (a .out) (a .start) (a .entry) h (c .if3 .left)
 
 pub judge-room-spec : {M : Type 1} → statement M
-judge-room-spec = tie.close (tie.spec (λ c κs. search needs)
-    returns
-    returns-2
-    returns-3
-    returns-4)
+judge-room-spec = tie.close (tie.spec (λ c κs. search needs) returns returns-2 returns-3 returns-4)

@@ -14,8 +14,4 @@ returns-3 : tie.Need-returns-3
 returns-3 c = rw (c .before .if1 .left, ne-eqb _ 0 (c .if2 .left))
 
 pub points-spec : {M : Type 1} → statement M
-points-spec = tie.close (tie.spec (λ c κs. search needs)
-    returns
-    (λ c. search needs)
-    returns-2
-    returns-3)
+points-spec = tie.close (tie.spec (λ c κs. search needs) returns (λ c. search needs) returns-2 returns-3)

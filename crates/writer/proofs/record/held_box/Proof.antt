@@ -16,6 +16,4 @@ returns-2 : tie.Need-returns-2
 returns-2 c = let s = c .before .before .before .before in rw (zero-no (s .args .state .kind) (c .before .if1 .left))
 
 pub held-box-spec : {M : Type 1} → statement M
-held-box-spec = tie.close (tie.spec (λ c κs. search needs)
-    returns
-    returns-2)
+held-box-spec = tie.close (tie.spec (λ c κs. search needs) returns returns-2)

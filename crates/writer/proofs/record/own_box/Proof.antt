@@ -15,7 +15,9 @@ returns-2 c =
 
 pub own-box-spec : {M : Type 1} → statement M
 own-box-spec =
-    tie.close (tie.spec (λ c κs. search needs)
+    tie.close
+    (tie.spec
+    (λ c κs. search needs)
     returns
     (λ c κs. search needs)
     (λ c κs. search needs)

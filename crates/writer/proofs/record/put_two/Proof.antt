@@ -20,7 +20,4 @@ returns c =
     (q .put-be-i322 .ensures ∙ ap (λ (z : ℤ). sets (p .put-be-i32 .last .0) 4 (i32Be z)) (toZ-ofZ w32 _ (s .fits .b)))
 
 pub put-two-spec : {M : Type 1} → statement M
-put-two-spec = tie.close (tie.spec (λ c κs. search needs)
-    (λ c κs. search needs)
-    (λ c. search needs)
-    returns)
+put-two-spec = tie.close (tie.spec (λ c κs. search needs) (λ c κs. search needs) (λ c. search needs) returns)

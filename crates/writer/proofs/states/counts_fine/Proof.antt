@@ -24,7 +24,9 @@ returns-6 c = rw (le-leb 50 _ (c .before .before .before .if1 .left), le-leb 1 _
 
 pub counts-fine-spec : {M : Type 1} → statement M
 counts-fine-spec =
-    tie.close (tie.spec returns
+    tie.close
+    (tie.spec
+    returns
     returns-2
     (λ c. search needs)
     (λ c. search needs)

@@ -23,9 +23,5 @@ returns c = let h : 50 + 4 * (c .natural .result - 1) < 2 ^ 31 = omega (arith, n
     rw (toZ-pos w32 _ h, natural-is c)
 
 pub index-words-spec : {M : Type 1} → statement M
-index-words-spec = tie.close (tie.spec (λ c κs. search needs)
-    sub-t3
-    (λ c. search needs)
-    (λ c. search needs)
-    cast-t6
-    returns)
+index-words-spec =
+    tie.close (tie.spec (λ c κs. search needs) sub-t3 (λ c. search needs) (λ c. search needs) cast-t6 returns)
