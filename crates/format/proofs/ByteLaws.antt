@@ -91,7 +91,7 @@ all-take zero l h = tt
 all-take (suc n) [] h = tt
 all-take (suc n) (b ∷ l) h = (h .0, all-take n l (h .1))
 
-all-drop : (n : ℕ) (l : List ℕ) → AllBytes l → AllBytes (drop n l)
+pub all-drop : (n : ℕ) (l : List ℕ) → AllBytes l → AllBytes (drop n l)
 all-drop zero l h = h
 all-drop (suc n) [] h = tt
 all-drop (suc n) (b ∷ l) h = all-drop n l (h .1)

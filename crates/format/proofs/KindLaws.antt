@@ -1,20 +1,22 @@
 -- Laws of the table of kinds: a search that has come to row i, and codes by their sign.
 use mathlib.Core.Path.{_≡_, refl, sym, ap, _∙_, subst}
-use mathlib.Core.Bool.{true, false}
+use mathlib.Core.Bool.{Bool, true, false, cond, _&&_}
 use mathlib.Core.List.{List, [], _∷_}
-use mathlib.Core.Option.{none, some}
+use mathlib.Core.Option.{Option, none, some}
 use Prim.Native.Nat.{ℕ, zero, suc, _+_, _≤_, _<_}
 use native.Mathlib.Nat.{not-suc-le-zero, le-of-suc-le-suc}
 use native.Mathlib.Numerals.{add-one}
-use lib.Dec.{T}
+use native.Mathlib.Omega.{arith}
+use lib.Dec.{T, eqb}
 use lib.IntN.{ℤ, pos, negsuc, natAbs}
 use lib.ListN.{length, getD, getElem?, drop}
 use lib.Seq.{drop-cons}
 use lib.Signed.{ltZ}
-use borrow.Author.Tests.{ltb-true, eq-eqb, ne-eqb}
+use borrow.Author.Tests.{ltb-true, eq-eqb, eqb-true, ne-eqb}
 use Rattle.format.specs.declared.kinds.Kind.{Kind}
 use Rattle.format.specs.declared.kinds.Found.the-variants.{Is, Unknown}
-use Rattle.format.specs.Kinds.{kinds, rowOf, found, kindOf}
+use Rattle.format.specs.Kinds.{kinds, rowOf, kindAt, found, kindOf}
+use Rattle.format.proofs.OrderLaws.{both-true}
 
 -- with d for a row past the end: the search ends at row i, or goes on
 module _ (code : ℕ) (l : List Kind) (d : Kind) (i : ℕ) (h : i < length l) where
@@ -25,6 +27,47 @@ module _ (code : ℕ) (l : List Kind) (d : Kind) (i : ℕ) (h : i < length l) wh
   pub row-on : (getD l i d .code ≡ code → ⊥) → rowOf code (drop i l) ≡ suc (rowOf code (drop (i + 1) l))
   unfolding rowOf
   row-on e = rw (add-one, drop-cons l i d h, ne-eqb _ _ e)
+
+-- the row that is found has the code
+row-by : (b : Bool) (n : ℕ) (h : Kind) (l : List Kind) (k : Kind) → eqb (h .code) n ≡ b → (getElem? l (rowOf n l) ≡ some k → k .code ≡ n) → getElem? (h ∷ l) (cond b 0 (suc (rowOf n l))) ≡ some k → k .code ≡ n
+row-by true n h l k e on p = let q : h ≡ k = cc in ap (λ (x : Kind). x .code) (sym q) ∙ eqb-true (h .code) n e
+row-by false n h l k e on p = on p
+
+row-code : (n : ℕ) (l : List Kind) (k : Kind) → getElem? l (rowOf n l) ≡ some k → k .code ≡ n
+unfolding rowOf
+row-code n [] k p = cc
+row-code n (h ∷ l) k p = row-by (eqb (h .code) n) n h l k refl (row-code n l k) p
+
+pub found-code : (n : ℕ) (k : Kind) → kindAt (pos n) ≡ some k → k .code ≡ n
+found-code n k e = row-code n kinds k e
+
+pub code-is : (z : ℤ) (k : Kind) → kindAt z ≡ some k → z ≡ pos (k .code)
+code-is (pos n) k e = ap pos (sym (found-code n k e))
+code-is (negsuc n) k e = cc
+
+-- what a computed test of the whole table says of it
+abbrev pub every : (Kind → Bool) → List Kind → Bool
+every ok [] = true
+every ok (k ∷ rows) = ok k && every ok rows
+
+row-in : (ok : Kind → Bool) (l : List Kind) (i : ℕ) (k : Kind) → every ok l ≡ true → getElem? l i ≡ some k → ok k ≡ true
+row-in ok [] i k t e = absurd (let z : _≡_ {A = ℕ} 0 1 = cc in omega arith)
+row-in ok (r ∷ rows) zero k t e = let q : r ≡ k = cc in subst (λ (x : Kind). ok x ≡ true) q (both-true (ok r) (every ok rows) t .0)
+row-in ok (r ∷ rows) (suc i) k t e = row-in ok rows i k (both-true (ok r) (every ok rows) t .1) e
+
+pub of-table : (ok : Kind → Bool) → every ok kinds ≡ true → (z : ℤ) (k : Kind) → kindAt z ≡ some k → ok k ≡ true
+of-table ok t (pos n) k e = row-in ok kinds (rowOf n kinds) k t e
+of-table ok t (negsuc n) k e = absurd (let z : _≡_ {A = ℕ} 0 1 = cc in omega arith)
+
+-- ---- what the lookup says of the row
+
+pub found-some : (o : Option Kind) (k : Kind) → found o ≡ Is k → o ≡ some k
+found-some none k e = cc
+found-some (some x) k e = cc
+
+pub found-none : (o : Option Kind) → found o ≡ Unknown → o ≡ none
+found-none none e = refl
+found-none (some x) e = cc
 
 pub kindOf-neg : (z : ℤ) → ltZ z (pos 0) ≡ true → kindOf z ≡ Unknown
 unfolding kindOf

@@ -3,17 +3,18 @@ use mathlib.Core.Path.{_≡_, refl, sym, ap, _∙_}
 use mathlib.Core.List.{List, [], _∷_, _++_, map, flatten}
 use Prim.Native.Nat.{ℕ, zero, suc, _+_, _-_, _≤_, _<_}
 use native.Mathlib.Nat.{not-suc-le-zero, le-of-suc-le-suc, zero-add, add-zero, add-suc, suc-add}
+use native.Mathlib.Numerals.{add-one}
 use native.Mathlib.Omega.{arith}
 use lib.ListN.{length, getD, take, drop, set, length-append}
-use lib.Seq.{sets, take-at, drop-append-add, drop-drop, take-add, take-take, take-nil}
+use lib.Seq.{drop-cons, sets, take-at, drop-append-add, drop-drop, take-add, take-take, take-nil}
 use Rattle.format.specs.Bytes.{field}
+use Rattle.format.specs.Shapes.{sum}
 
 abbrev pub widths : List (List ℕ) → List ℕ
 widths fs = map length fs
 
-abbrev pub sum : List ℕ → ℕ
-sum [] = 0
-sum (w ∷ ws) = w + sum ws
+pub sum-drop : (ws : List ℕ) (i : ℕ) → i < length ws → sum (drop i ws) ≡ getD ws i 0 + sum (drop (i + 1) ws)
+sum-drop ws i h = rw (drop-cons ws i 0 h, add-one)
 
 -- where field i starts
 abbrev pub start : List ℕ → ℕ → ℕ

@@ -1,18 +1,25 @@
 -- Laws of content lengths. The constant table beside the kinds holds each kind's formulas: one computed test over the whole table.
 use mathlib.Core.Path.{_≡_, refl, sym, ap, _∙_}
-use mathlib.Core.Bool.{false}
+use mathlib.Core.Bool.{Bool, true, false, cond}
 use mathlib.Core.List.{List, [], _∷_, map}
-use mathlib.Core.Option.{Option, bind}
+use mathlib.Core.Option.{Option, some, bind}
 use Prim.Native.Nat.{ℕ, zero, suc, _*_, _^_, _≤_, _<_}
 use native.Mathlib.Nat.{not-suc-le-zero, le-of-suc-le-suc, le-of-lt, lt-of-le-of-lt, mul-le-mul-left, mul-lt-mul-of-pos-right}
+use native.Mathlib.Omega.{arith}
+use lib.Dec.{ltb}
+use lib.IntN.{ℤ, pos}
 use lib.ListN.{length, getD, getElem?}
 use lib.Pow.{pow-pos}
+use borrow.Author.Tests.{ltb-true, ltb-false}
 use Rattle.format.specs.declared.kinds.Kind.{Kind}
 use Rattle.format.specs.declared.lengths.Content.{Content}
 use Rattle.format.specs.declared.lengths.Content.the-variants.{Taken, NotTaken}
-use Rattle.format.specs.Kinds.{kind, kinds, rowOf}
-use Rattle.format.specs.Lengths.{formOf, fixedWords, pointWords, lengthsOf, taken, contentOf}
-use Rattle.format.proofs.KindLaws.{elem-in, elem-out}
+use Rattle.format.specs.declared.lengths.Counted.the-variants.{Is, Long}
+use Rattle.format.specs.declared.lengths.Formula.{Formula}
+use Rattle.format.specs.declared.units.Words.{Words}
+use Rattle.format.specs.Kinds.{kind, kinds, rowOf, kindAt}
+use Rattle.format.specs.Lengths.{formOf, fixedWords, pointWords, lengthsOf, taken, contentOf, formulaWords, counted}
+use Rattle.format.proofs.KindLaws.{code-is, elem-in, elem-out}
 
 abbrev row : ℕ → ℕ → ℕ → ℕ → Content
 row f p fm pm = Taken (record { without = record { fixed = f; point = p }; with = record { fixed = fm; point = pm } })
@@ -58,7 +65,28 @@ module _ (code i : ℕ) (r : i ≡ rowOf code kinds) where
   unfolding contentOf bind kinds
   content-out h = ap (λ (o : Option Kind). taken (bind o lengthsOf)) (sym (ap (getElem? kinds) (sym r) ∙ elem-out kinds i h))
 
+pub content-is : (z : ℤ) (k : Kind) → kindAt z ≡ some k → contentOf (k .code) ≡ taken (lengthsOf k)
+unfolding contentOf bind
+content-is z k e = ap (λ (o : Option Kind). taken (bind o lengthsOf)) (sym (ap kindAt (code-is z k e)) ∙ e)
+
 -- ---- what a formula comes to
+
+module _ (f : Formula) (p n : ℕ) where
+  pub counted-long : Long ≡ counted f p n → 2 ^ 31 ≤ formulaWords f p n
+  unfolding counted
+  counted-long e = by (ltb (formulaWords f p n) (2 ^ 31)) refl e
+    where
+      by : (b : Bool) → ltb (formulaWords f p n) (2 ^ 31) ≡ b → Long ≡ cond b (Is (record { 0 = pos (formulaWords f p n) })) Long → 2 ^ 31 ≤ formulaWords f p n
+      by true t q = absurd (let z : _≡_ {A = ℕ} 0 1 = cc in omega arith)
+      by false t q = ltb-false _ _ t
+
+  pub counted-held : (w : Words) → Is w ≡ counted f p n → (formulaWords f p n < 2 ^ 31) × (w ≡ record { 0 = pos (formulaWords f p n) })
+  unfolding counted
+  counted-held w e = by (ltb (formulaWords f p n) (2 ^ 31)) refl e
+    where
+      by : (b : Bool) → ltb (formulaWords f p n) (2 ^ 31) ≡ b → Is w ≡ cond b (Is (record { 0 = pos (formulaWords f p n) })) Long → (formulaWords f p n < 2 ^ 31) × (w ≡ record { 0 = pos (formulaWords f p n) })
+      by true t q = (ltb-true _ _ t, cc)
+      by false t q = absurd (let z : _≡_ {A = ℕ} 0 1 = cc in omega arith)
 
 pub small-product : {a n : ℕ} → a < 2 ^ 16 → n < 2 ^ 32 → a * n < 2 ^ 48
 small-product {a} {n} p q = lt-of-le-of-lt (mul-le-mul-left a (le-of-lt q)) (mul-lt-mul-of-pos-right p (pow-pos 32))

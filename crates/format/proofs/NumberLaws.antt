@@ -3,14 +3,15 @@ use mathlib.Core.Path.{_≡_, refl, sym, ap, _∙_}
 use mathlib.Core.List.{List}
 use Prim.Native.Nat.{ℕ, zero, suc, _+_, _^_, _≤_, _<_}
 use lib.Dec.{T}
-use lib.Ieee.{Float, binary64, ofBits, toBits, fits}
+use lib.Ieee.{Float, binary64, ofBits, ofInt, toBits, fits}
 use lib.Ieee.Bits.{ofBits-toBits, toBits-lt, ofBits-fits}
-use lib.IntN.{ℤ}
-use lib.ListN.{length}
+use lib.IntN.{ℤ, pos}
+use lib.ListN.{length, length-append}
 use mir.Syntax.{w32}
 use mir.Val.{SFits, toZ, ofZ}
 use mir.ValLaws.{toZ-ofZ, ofZ-toZ, ofZ-fits}
 use Rattle.format.specs.Bytes.{le, be, leBytes, beBytes, field}
+use Rattle.format.specs.Encoding.{twoBig}
 use Rattle.format.specs.Numbers.{big, little, double, beI32, leI32, leF64, doublesAt, i32Be, i32Le, f64Le, PlainNan}
 use Rattle.format.proofs.ByteLaws.{AllBytes, length-leBytes, length-beBytes, le-leBytes, be-beBytes, leBytes-field, beBytes-field, le-field-lt, be-field-lt}
 use Rattle.format.proofs.NanLaws.{bits-back, back-plain}
@@ -29,6 +30,10 @@ pub length-double : (d : ℕ) → length (double d) ≡ 8
 unfolding double
 length-double d = length-leBytes 8 d
 
+pub length-two : (a b : ℕ) → length (twoBig a b) ≡ 8
+unfolding twoBig
+length-two a b = simp (length-append, length-big)
+
 pub length-f64Le : (x : Float) → length (f64Le x) ≡ 8
 unfolding f64Le
 length-f64Le x = length-double (toBits binary64 x)
@@ -37,6 +42,10 @@ pub length-doublesAt : (n at : ℕ) (s : List ℕ) → length (doublesAt n at s)
 unfolding doublesAt
 length-doublesAt zero at s = refl
 length-doublesAt (suc n) at s = ap suc (length-doublesAt n (at + 8) s)
+
+pub zero-bits : ofBits binary64 0 ≡ ofInt binary64 (pos 0)
+unfolding ofBits ofInt
+zero-bits = refl
 
 -- ---- a field that holds a number's bytes has that number
 

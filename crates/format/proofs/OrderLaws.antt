@@ -1,7 +1,7 @@
 -- Laws of tests in order, as code meets them: a test passed and the next stands, a test failed and its refusal is the answer.
-use mathlib.Core.Path.{_≡_, refl, sym, ap, _∙_}
+use mathlib.Core.Path.{_≡_, refl, sym, ap, _∙_, subst}
 use mathlib.Core.Bool.{Bool, true, false, cond, _&&_}
-use mathlib.Core.List.{List, [], _∷_}
+use mathlib.Core.List.{List, [], _∷_, _++_}
 use Prim.Native.Nat.{ℕ, zero, suc, _+_, _*_, _-_, _/_, _≤_, _<_}
 use native.Mathlib.Nat.{mul-suc, suc-mul, mul-zero, zero-mul, add-zero, add-div-left, div-eq-of-lt}
 use native.Mathlib.Numerals.{add-one}
@@ -20,7 +20,23 @@ next-cut w pw at l p =
     let q = (l - (at + w)) / w in
     rw (d, add-one, suc-mul q w) (omega arith)
 
+-- ---- tests joined by `and`
+
+pub both-hold : (a b : Bool) → T (a && b) → T a × T b
+both-hold true b t = (tt, t)
+both-hold false b t = absurd t
+
+pub both-true : (a b : Bool) → a && b ≡ true → (a ≡ true) × (b ≡ true)
+both-true true b e = (refl, e)
+both-true false b e = absurd (subst T (sym e) tt)
+
+-- ---- tests in order
+
 module _ {A : Type 0} where
+  pub first-append : (ts us : List (Bool × A)) (a : A) → first (ts ++ us) a ≡ first ts (first us a)
+  first-append [] us a = refl
+  first-append (t ∷ ts) us a = ap (λ r. cond (t .0) r (t .1)) (first-append ts us a)
+
   -- what is left of the tests from test k on
   abbrev pub rest : ℕ → List (Bool × A) → A → A
   rest k ts a = first (drop k ts) a
@@ -84,7 +100,46 @@ module _ {A : Type 0} where
     fields-cut (suc n) at s short a h k =
         cut-by (leb (at + w) (length s)) at (length s) n short (first (fieldsFrom w n (at + w) s short) a) refl h k (λ p q. fields-cut n (at + w) s short a p q)
 
--- ---- an answer that was given passed every test
+-- ---- an answer that no test refuses with passed every test
+
+-- a proof for each test, one after the other
+infixr 20 _then_
+abbrev pub _then_ : {A B : Type 0} → A → B → A × B
+a then b = (a, b)
+
+module _ {A : Type 0} where
+  -- every test passes
+  abbrev pub Pass : List (Bool × A) → Type 0
+  Pass [] = Unit {0}
+  Pass (t ∷ ts) = (t .0 ≡ true) × Pass ts
+
+  pub all-pass : (ts : List (Bool × A)) (a : A) → Pass ts → first ts a ≡ a
+  all-pass [] a p = refl
+  all-pass (t ∷ ts) a p = rw (p .0) (all-pass ts a (p .1))
+
+  each : (ts : List (Bool × A)) → Pass ts → (k : ℕ) → okAt k ts ≡ true
+  each [] p k = refl
+  each (t ∷ ts) p zero = p .0
+  each (t ∷ ts) p (suc k) = each ts (p .1) k
+
+  -- none refuses with x
+  module _ (x : A) where
+    abbrev Refuse : List (Bool × A) → Type 0
+    Refuse [] = Unit {0}
+    Refuse (t ∷ ts) = (t .1 ≡ x → ⊥) × Refuse ts
+
+    by-test : (b : Bool) (r on : A) → (r ≡ x → ⊥) → cond b on r ≡ x → (b ≡ true) × (on ≡ x)
+    by-test true r on n e = (refl, e)
+    by-test false r on n e = absurd (n e)
+
+    pass : (ts : List (Bool × A)) (a : A) → Refuse ts → first ts a ≡ x → Pass ts × (a ≡ x)
+    pass [] a r e = (tt, e)
+    pass (t ∷ ts) a r e =
+        let p = by-test (t .0) (t .1) (first ts a) (r .0) e in
+        let q = pass ts a (r .1) (p .1) in
+        ((p .0, q .0), q .1)
+
+-- ---- a value is no refusal
 
 abbrev pub isRefusal : {A : Type 0} → Said A → Bool
 isRefusal (gives a) = false
@@ -95,28 +150,51 @@ abbrev pub refusing : {A : Type 0} → List (Bool × Said A) → Bool
 refusing [] = true
 refusing (t ∷ ts) = isRefusal (t .1) && refusing ts
 
-both : (a b : Bool) → T (a && b) → T a × T b
-both true b t = (tt, t)
-both false b t = absurd t
-
 module _ {A : Type 0} (a x : A) where
   no-gift : (r : Said A) → T (isRefusal r) → r ≡ gives x → ⊥
   no-gift (gives b) t e = t
   no-gift (refuses n vs) t e = let z : _≡_ {A = ℕ} 0 1 = cc in omega arith
 
-  by-test : (b : Bool) (r : Said A) (on : Said A) → T (isRefusal r) → cond b on r ≡ gives x → (b ≡ true) × (on ≡ gives x)
-  by-test true r on t e = (refl, e)
-  by-test false r on t e = absurd (no-gift r t e)
+  no-gifts : (ts : List (Bool × Said A)) → T (refusing ts) → Refuse (gives x) ts
+  no-gifts [] r = tt
+  no-gifts (t ∷ ts) r = let q = both-hold (isRefusal (t .1)) (refusing ts) r in (no-gift (t .1) (q .0), no-gifts ts (q .1))
 
-  pub passed : (ts : List (Bool × Said A)) → T (refusing ts) → first ts (gives a) ≡ gives x → (k : ℕ) → okAt k ts ≡ true
-  passed [] r e k = refl
-  passed (t ∷ ts) r e zero = by-test (t .0) (t .1) (first ts (gives a)) (both (isRefusal (t .1)) (refusing ts) r .0) e .0
-  passed (t ∷ ts) r e (suc k) =
-      let q = both (isRefusal (t .1)) (refusing ts) r in
-      passed ts (q .1) (by-test (t .0) (t .1) (first ts (gives a)) (q .0) e .1) k
+  module _ (ts : List (Bool × Said A)) (r : T (refusing ts)) (e : first ts (gives a) ≡ gives x) where
+    pub passed : (k : ℕ) → okAt k ts ≡ true
+    passed = each ts (pass (gives x) ts (gives a) (no-gifts ts r) e .0)
 
-  pub given : (ts : List (Bool × Said A)) → T (refusing ts) → first ts (gives a) ≡ gives x → a ≡ x
-  given [] r e = cc
-  given (t ∷ ts) r e =
-      let q = both (isRefusal (t .1)) (refusing ts) r in
-      given ts (q .1) (by-test (t .0) (t .1) (first ts (gives a)) (q .0) e .1)
+    pub given : a ≡ x
+    given = let q = pass (gives x) ts (gives a) (no-gifts ts r) e .1 in cc
+
+-- ---- rules have numbers, and no fault is 0
+
+abbrev pub numbered : List (Bool × ℕ) → Bool
+numbered [] = true
+numbered (t ∷ ts) = leb 1 (t .1) && numbered ts
+
+no-zero : (r : ℕ) → T (leb 1 r) → r ≡ 0 → ⊥
+no-zero zero t e = t
+no-zero (suc r) t e = omega arith
+
+no-zeros : (ts : List (Bool × ℕ)) → T (numbered ts) → Refuse 0 ts
+no-zeros [] n = tt
+no-zeros (t ∷ ts) n = let q = both-hold (leb 1 (t .1)) (numbered ts) n in (no-zero (t .1) (q .0), no-zeros ts (q .1))
+
+module _ (ts : List (Bool × ℕ)) (n : T (numbered ts)) (e : first ts 0 ≡ 0) where
+  met : Pass ts
+  met = pass 0 ts 0 (no-zeros ts n) e .0
+
+  pub no-fault : (k : ℕ) → okAt k ts ≡ true
+  no-fault = each ts met
+
+  pub no-fault-then : (us : List (Bool × ℕ)) → first (ts ++ us) 0 ≡ first us 0
+  no-fault-then us = first-append ts us 0 ∙ all-pass ts (first us 0) met
+
+-- a fault of the first of them is one of all
+pub fault-first : (ts us : List (Bool × ℕ)) (r : ℕ) → first ts 0 ≡ r → (r ≡ 0 → ⊥) → first (ts ++ us) 0 ≡ r
+fault-first [] us r e n = absurd (n (sym e))
+fault-first (t ∷ ts) us r e n = go (t .0) e (λ q. fault-first ts us r q n)
+  where
+    go : (b : Bool) → cond b (first ts 0) (t .1) ≡ r → (first ts 0 ≡ r → first (ts ++ us) 0 ≡ r) → cond b (first (ts ++ us) 0) (t .1) ≡ r
+    go true e f = f e
+    go false e f = e

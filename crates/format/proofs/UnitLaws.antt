@@ -57,6 +57,13 @@ same-no (negsuc a) (negsuc b) e = ne-eqb a b (λ p. e (ap negsuc p))
 pub same-bits : (x y : ℤ) → SFits w64 x → SFits w64 y → ofZ w64 x ≡ ofZ w64 y → x ≡ y
 same-bits x y f g e = sym (toZ-ofZ w64 x f) ∙ (ap (toZ w64) e ∙ toZ-ofZ w64 y g)
 
+-- the same of codes, as they are compared
+pub bits-same : (x y : ℤ) → SFits w32 x → SFits w32 y → ofZ w32 x ≡ ofZ w32 y → sameInt x y ≡ true
+bits-same x y f g e = same-yes x y (sym (toZ-ofZ w32 x f) ∙ (ap (toZ w32) e ∙ toZ-ofZ w32 y g))
+
+pub bits-differ : (x y : ℤ) → (ofZ w32 x ≡ ofZ w32 y → ⊥) → sameInt x y ≡ false
+bits-differ x y e = same-no x y (λ p. e (ap (ofZ w32) p))
+
 -- ---- what the function answers
 
 pub not-held : (b : Bytes) → inI32 (shrZ (b .0) 2) ≡ false → Not ≡ inWords b

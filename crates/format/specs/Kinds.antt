@@ -37,14 +37,22 @@ unfoldable pub rowOf : ℕ → List Kind → ℕ
 rowOf code [] = 0
 rowOf code (k ∷ rows) = cond (eqb (k .code) code) 0 (suc (rowOf code rows))
 
+-- the kind with this code, where the table has it
+abbrev pub kindAt : ℤ → Option Kind
+kindAt (pos n) = getElem? kinds (rowOf n kinds)
+kindAt (negsuc n) = none
+
+-- what is not in the table is refused before its kind is used
+abbrev pub kindOr : Option Kind → Kind
+kindOr none = kind 0 false false false
+kindOr (some k) = k
+
 abbrev pub found : Option Kind → Found
 found none = Unknown
 found (some k) = Is k
 
--- the kind with this code
 unfoldable pub kindOf : ℤ → Found
-kindOf (pos n) = found (getElem? kinds (rowOf n kinds))
-kindOf (negsuc n) = Unknown
+kindOf z = found (kindAt z)
 
 abbrev pub isKind : Found → Bool
 isKind (Is k) = true

@@ -3,8 +3,7 @@ use mathlib.Core.Bool.{Bool, true, false, cond, _||_}
 use mathlib.Core.Option.{Option, none, some, Option·map, bind}
 use Prim.Native.Nat.{ℕ, _+_, _*_, _^_}
 use lib.Dec.{eqb, ltb}
-use lib.IntN.{pos}
-use lib.ListN.{getElem?}
+use lib.IntN.{ℤ, pos}
 use Rattle.format.specs.declared.kinds.Kind.{Kind}
 use Rattle.format.specs.declared.lengths.Formula.{Formula}
 use Rattle.format.specs.declared.lengths.Lengths.{Lengths}
@@ -12,7 +11,7 @@ use Rattle.format.specs.declared.lengths.Content.{Content}
 use Rattle.format.specs.declared.lengths.Content.the-variants.{Taken, NotTaken}
 use Rattle.format.specs.declared.lengths.Counted.{Counted}
 use Rattle.format.specs.declared.lengths.Counted.the-variants.{Is, Long}
-use Rattle.format.specs.Kinds.{kinds, rowOf}
+use Rattle.format.specs.Kinds.{kindAt}
 
 -- what a content holds beside the kind's field: nothing, one point, or parts of points
 pub data Form : Type 0 where
@@ -26,6 +25,14 @@ formOf k =
     cond (eqb (k .code) 8 || eqb (k .code) 18 || eqb (k .code) 28 || eqb (k .code) 31) none
     (cond (eqb (k .code) 0) (some nothing)
     (cond (k .parts) (some parts) (some onePoint)))
+
+-- the form of the kind with this code
+abbrev pub formIn : Option Kind → Option Form
+formIn none = none
+formIn (some k) = formOf k
+
+abbrev pub formAt : ℤ → Option Form
+formAt z = formIn (kindAt z)
 
 -- so many words where the flag is set
 abbrev pub given : Bool → ℕ → ℕ
@@ -74,12 +81,15 @@ taken (some l) = Taken l
 
 -- the formulas of the kind with this code, where it is a taken one
 unfoldable pub contentOf : ℕ → Content
-contentOf n = taken (bind (getElem? kinds (rowOf n kinds)) lengthsOf)
+contentOf n = taken (bind (kindAt (pos n)) lengthsOf)
 
 -- the words as an i32 holds them
 abbrev pub heldWords : ℕ → Counted
 heldWords words = cond (ltb words (2 ^ 31)) (Is (record { 0 = pos words })) Long
 
 -- a formula's words for p parts and n points
+abbrev pub formulaWords : Formula → ℕ → ℕ → ℕ
+formulaWords f p n = f .fixed + 2 * p + f .point * n
+
 unfoldable pub counted : Formula → ℕ → ℕ → Counted
-counted f p n = heldWords (f .fixed + 2 * p + f .point * n)
+counted f p n = heldWords (formulaWords f p n)

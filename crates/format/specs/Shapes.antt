@@ -2,9 +2,9 @@
 -- shared, is true by what a shape is, and where each part starts is for the encoding to work out.
 use mathlib.Core.Path.{_≡_}
 use mathlib.Core.Bool.{Bool, true, false}
-use mathlib.Core.List.{List, flatten}
+use mathlib.Core.List.{List, [], _∷_, flatten}
 use mathlib.Core.Option.{Option, none, some}
-use Prim.Native.Nat.{ℕ}
+use Prim.Native.Nat.{ℕ, _+_}
 use lib.ListN.{length}
 use Rattle.format.specs.declared.kinds.Kind.{Kind}
 use Rattle.format.specs.Lengths.{nothing, onePoint, formOf}
@@ -38,6 +38,10 @@ pub data Shape : Type 0 where
   parted : Parts → Shape
 
 -- ---- counts: a point counts no part and one point, Null neither
+
+abbrev pub sum : List ℕ → ℕ
+sum [] = 0
+sum (n ∷ ns) = n + sum ns
 
 unfoldable pub partsIn : Shape → ℕ
 partsIn null = 0

@@ -17,8 +17,9 @@ use Rattle.format.specs.Encoding.{headerFields, headerBytes}
 use Rattle.format.specs.Kinds.{known}
 use Rattle.format.specs.Numbers.{beI32, leI32, leF64, i32Be, i32Le, f64Le, PlainNan}
 use Rattle.format.specs.Said.{gives, wrongSize}
+use Rattle.format.specs.Shapes.{sum}
 use Rattle.format.proofs.ByteLaws.{AllBytes, all-bytes}
-use Rattle.format.proofs.LayoutLaws.{widths, sum, start, pieces, length-flatten, field-flatten, flatten-pieces, field-take}
+use Rattle.format.proofs.LayoutLaws.{widths, start, pieces, length-flatten, field-flatten, flatten-pieces, field-take}
 use Rattle.format.proofs.NumberLaws.{length-big, length-little, length-double, beI32-back, leI32-back, leF64-back, i32Be-of, i32Le-of, f64Le-of, f64Le-only}
 use Rattle.format.proofs.OrderLaws.{passed, given}
 use Rattle.header.specs.declared.Header.{Header}

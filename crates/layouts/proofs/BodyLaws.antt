@@ -10,13 +10,14 @@ use lib.Seq.{sets}
 use Rattle.format.specs.Encoding.{doubles, boxBytes, measureBytes, partsBytes}
 use Rattle.format.specs.Lengths.{contentWords, fixedWords, pointWords}
 use Rattle.format.specs.Numbers.{little, f64Le, f64sLe}
+use Rattle.format.specs.Shapes.{sum}
 use Rattle.format.proofs.LayoutLaws.{sets-append}
 use Rattle.format.proofs.NumberLaws.{length-little}
 use Rattle.header.specs.declared.bbox.BBoxZ.{BBoxZ}
-use Rattle.layouts.specs.Answers.{agree, bodySize}
+use Rattle.layouts.specs.Answers.{bodySize}
 use Rattle.layouts.specs.Steps.{measureSize, startsBytes, corners, frontBytes, Agreed}
-use Rattle.layouts.specs.Tables.{sum, pointsOf, measureOf, partsOf}
-use Rattle.layouts.proofs.TableLaws.{agreed, length-points, points-bytes, split-length, split-whole, split-starts, doubles-bytes, length-f64sLe, length-starts}
+use Rattle.layouts.specs.Tables.{pointsOf, measureOf, partsOf}
+use Rattle.layouts.proofs.TableLaws.{length-points, points-bytes, split-length, split-whole, split-starts, doubles-bytes, length-f64sLe, length-starts}
 
 -- bytes that are stored right behind others
 onto : (out l l′ a b : List ℕ) (at i : ℕ) → i ≡ at + length a → l ≡ sets out at a → l′ ≡ sets l i b → l′ ≡ sets out at (a ++ b)
@@ -83,7 +84,7 @@ module _ (z m : Bool) (b : BBoxZ) (counts : List ℕ) (xy zs ms : List Float) wh
   abbrev mRun : List ℕ
   mRun = run m (b .mmin) (b .mmax) ms
 
-  module _ (h : Agreed z m counts xy zs ms) where
+  module _ (h : Agreed z m (sum counts) xy zs ms) where
     points : sum counts ≡ length (pointsOf xy)
     points = omega (arith, h .xy-has, length-points xy)
 
@@ -105,12 +106,6 @@ module _ (z m : Bool) (b : BBoxZ) (counts : List ℕ) (xy zs ms : List Float) wh
     z-length : length zRun ≡ measureSize z (sum counts)
     z-length = length-measure (b .zmin) (b .zmax) zs z (sum counts) (h .zs-has)
 
-    m-length : length mRun ≡ measureSize m (sum counts)
-    m-length = length-measure (b .mmin) (b .mmax) ms m (sum counts) (h .ms-has)
-
-    sized : length (partsBytes (partsOf z m b counts xy zs ms)) ≡ bodySize z m (length counts) (sum counts)
-    sized = ap length body-is ∙ simp (length-append, length-front, xy-length, z-length, m-length, ← size-is) (omega arith)
-
     stored : (out l1 l2 l3 l4 : List ℕ) → l1 ≡ sets out 0 (frontBytes b counts (sum counts)) → l2 ≡ sets l1 (40 + 4 * length counts) (f64sLe xy) → l3 ≡ sets l2 (40 + 4 * length counts + 16 * sum counts) zRun → l4 ≡ sets l3 (40 + 4 * length counts + 16 * sum counts + measureSize z (sum counts)) mRun → l4 ≡ sets out 0 (partsBytes (partsOf z m b counts xy zs ms))
     stored out l1 l2 l3 l4 e1 e2 e3 e4 =
         let f = frontBytes b counts (sum counts) in
@@ -123,6 +118,3 @@ module _ (z m : Bool) (b : BBoxZ) (counts : List ℕ) (xy zs ms : List Float) wh
     -- n is the points as the code has them
     pub body-stored : (n : ℕ) → n ≡ sum counts → (out l1 l2 l3 l4 : List ℕ) → l1 ≡ sets out 0 (frontBytes b counts n) → l2 ≡ sets l1 (40 + 4 * length counts) (f64sLe xy) → l3 ≡ sets l2 (40 + 4 * length counts + 16 * n) zRun → l4 ≡ sets l3 (40 + 4 * length counts + 16 * n + measureSize z n) mRun → l4 ≡ sets out 0 (partsBytes (partsOf z m b counts xy zs ms))
     body-stored n e = rw e stored
-
-  pub length-body : agree z m counts xy zs ms ≡ true → length (partsBytes (partsOf z m b counts xy zs ms)) ≡ bodySize z m (length counts) (sum counts)
-  length-body e = sized (agreed z m counts xy zs ms e)

@@ -9,11 +9,11 @@ use lib.Ieee.{Float}
 use lib.ListN.{length}
 use borrow.Author.Tests.{eq-eqb, ne-eqb, lt-ltb, le-ltb, le-leb, lt-leb, eqb-true, eqb-false, ltb-true, leb-true}
 use Rattle.format.specs.Said.{gives, tables, long, roomBytes}
-use Rattle.format.proofs.OrderLaws.{passed}
+use Rattle.format.specs.Shapes.{sum}
+use Rattle.format.proofs.OrderLaws.{passed, both-true}
 use Rattle.layouts.specs.Answers.{agree, bodySize, layoutTests, layoutOf}
 use Rattle.layouts.specs.Steps.{Placed}
-use Rattle.layouts.specs.Tables.{sum}
-use Rattle.layouts.proofs.TableLaws.{both, agreed}
+use Rattle.layouts.proofs.TableLaws.{agreed}
 
 module _ (z m : Bool) (counts : List ℕ) (xy zs ms : List Float) (room : ℕ) where
   pub odd : (length xy % 2 ≡ 0 → ⊥) → tables ≡ layoutOf z m counts xy zs ms room
@@ -78,7 +78,7 @@ placed z m counts xy zs ms room size e =
     let n = bodySize z m (length counts) (sum counts) in
     let ok = passed n size (layoutTests z m counts xy zs ms room) tt (sym e) in
     record {
-      agreed = agreed z m counts xy zs ms (ok 0);
-      held = ltb-true (sum counts) (2 ^ 31) (both (ltb (length counts) (2 ^ 31)) (ltb (sum counts) (2 ^ 31)) (ok 1) .1);
+      agreed = agreed true z m (sum counts) xy zs ms (ok 0) .1;
+      held = ltb-true (sum counts) (2 ^ 31) (both-true (ltb (length counts) (2 ^ 31)) (ltb (sum counts) (2 ^ 31)) (ok 1) .1);
       fits = leb-true n room (ok 2);
     }

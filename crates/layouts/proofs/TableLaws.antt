@@ -1,6 +1,6 @@
 -- Laws of the shape that tables describe: where the counts sum to the points, its bytes are those of the tables, one after the other.
 use mathlib.Core.Path.{_≡_, refl, ap, _∙_}
-use mathlib.Core.Bool.{Bool, true, false, cond, _&&_}
+use mathlib.Core.Bool.{Bool, true, cond, _&&_}
 use mathlib.Core.List.{List, [], _∷_, _++_, map, flatten, append-assoc, map-map}
 use Prim.Native.Nat.{ℕ, suc, _+_, _*_, _/_, _%_, _≤_}
 use native.Mathlib.Omega.{arith}
@@ -11,30 +11,23 @@ use lib.Seq.{length-take-le}
 use borrow.Author.Tests.{eqb-true}
 use Rattle.format.specs.Encoding.{doubles, pointBytes, startsFrom}
 use Rattle.format.specs.Numbers.{little, f64Le, f64sLe}
-use Rattle.format.specs.Shapes.{Point}
+use Rattle.format.specs.Shapes.{Point, sum}
 use Rattle.format.proofs.NumberLaws.{length-little, length-f64Le}
-use Rattle.layouts.specs.Answers.{agree}
+use Rattle.format.proofs.OrderLaws.{both-true}
 use Rattle.layouts.specs.Steps.{startsBytes, Agreed}
-use Rattle.layouts.specs.Tables.{sum, bits, pointsOf, splitBy}
+use Rattle.layouts.specs.Tables.{bits, pointsOf, splitBy}
 
 -- ---- tables that agree
 
-pub both : (a b : Bool) → a && b ≡ true → (a ≡ true) × (b ≡ true)
-both true b e = (refl, e)
-both false b e = absurd (let x : _≡_ {A = ℕ} 0 1 = cc in omega arith)
-
-pub agreed : (z m : Bool) (counts : List ℕ) (xy zs ms : List Float) → agree z m counts xy zs ms ≡ true → Agreed z m counts xy zs ms
-agreed z m counts xy zs ms e =
-    let a = eqb (length xy) (2 * sum counts) in
-    let b = eqb (length zs) (cond z (sum counts) 0) in
-    let c = eqb (length ms) (cond m (sum counts) 0) in
-    let p = both (a && b) c e in
-    let q = both a b (p .0) in
-    record {
-      xy-has = eqb-true (length xy) (2 * sum counts) (q .0);
-      zs-has = eqb-true (length zs) (cond z (sum counts) 0) (q .1);
-      ms-has = eqb-true (length ms) (cond m (sum counts) 0) (p .1);
-    }
+-- with p for what else is asked
+pub agreed : (p z m : Bool) (n : ℕ) (xy zs ms : List Float)
+    → p && eqb (length xy) (2 * n) && eqb (length zs) (cond z n 0) && eqb (length ms) (cond m n 0) ≡ true
+    → (p ≡ true) × Agreed z m n xy zs ms
+agreed p z m n xy zs ms e =
+    let a = both-true _ (eqb (length ms) (cond m n 0)) e in
+    let b = both-true _ (eqb (length zs) (cond z n 0)) (a .0) in
+    let c = both-true p (eqb (length xy) (2 * n)) (b .0) in
+    (c .0, record { xy-has = eqb-true _ _ (c .1); zs-has = eqb-true _ _ (b .1); ms-has = eqb-true _ _ (a .1) })
 
 -- ---- points
 

@@ -10,13 +10,10 @@ use lib.ListN.{length, getD, drop}
 use lib.Seq.{sets, drop-cons}
 use borrow.Author.Tests.{eq-eqb, ne-eqb, eqb-true, eqb-false}
 use Rattle.format.specs.Numbers.{little}
-use Rattle.format.proofs.LayoutLaws.{sets-append}
+use Rattle.format.specs.Shapes.{sum}
+use Rattle.format.proofs.LayoutLaws.{sets-append, sum-drop}
 use Rattle.format.proofs.NumberLaws.{length-little}
 use Rattle.layouts.specs.Steps.{startsBytes}
-use Rattle.layouts.specs.Tables.{sum}
-
-pub sum-drop : (counts : List ℕ) (i : ℕ) → i < length counts → sum (drop i counts) ≡ getD counts i 0 + sum (drop (i + 1) counts)
-sum-drop counts i h = rw (drop-cons counts i 0 h, add-one)
 
 -- ---- a sum that runs down
 

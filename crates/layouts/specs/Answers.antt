@@ -11,10 +11,11 @@ use Rattle.format.specs.Encoding.{partsBytes}
 use Rattle.format.specs.Lengths.{parts, contentWords}
 use Rattle.format.specs.Order.{first}
 use Rattle.format.specs.Said.{Said, gives, tables, long, roomBytes, unlessRefused}
+use Rattle.format.specs.Shapes.{sum}
 use Rattle.header.specs.declared.bbox.BBoxZ.{BBoxZ}
 use Rattle.layouts.specs.declared.LayoutAnswer.{LayoutAnswer}
 use Rattle.layouts.specs.declared.LayoutAnswer.the-variants.{Written, Tables, Long, Room}
-use Rattle.layouts.specs.Tables.{sum, partsOf}
+use Rattle.layouts.specs.Tables.{partsOf}
 
 -- the part counts sum to n, xy holds 2n, and z and m hold n where the layout has them, else 0
 abbrev pub agree : Bool → Bool → List ℕ → List Float → List Float → List Float → Bool

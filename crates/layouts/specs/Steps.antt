@@ -6,9 +6,9 @@ use Prim.Native.Nat.{ℕ, _+_, _*_, _^_, _≤_, _<_}
 use lib.Ieee.{Float}
 use lib.ListN.{length}
 use Rattle.format.specs.Numbers.{little, f64sLe}
+use Rattle.format.specs.Shapes.{sum}
 use Rattle.header.specs.declared.bbox.BBoxZ.{BBoxZ}
 use Rattle.layouts.specs.Answers.{bodySize}
-use Rattle.layouts.specs.Tables.{sum}
 
 -- the bytes of a range and n values, where the layout has them
 abbrev pub measureSize : Bool → ℕ → ℕ
@@ -26,14 +26,14 @@ corners b = b .xmin ∷ b .ymin ∷ b .xmax ∷ b .ymax ∷ []
 unfoldable pub frontBytes : BBoxZ → List ℕ → ℕ → List ℕ
 frontBytes b counts n = f64sLe (corners b) ++ (little (length counts) ++ (little n ++ startsBytes 0 counts))
 
--- the tables agree
-pub record Agreed (z m : Bool) (counts : List ℕ) (xy zs ms : List Float) : Type 0 where
-  pub xy-has : length xy ≡ 2 * sum counts
-  pub zs-has : length zs ≡ cond z (sum counts) 0
-  pub ms-has : length ms ≡ cond m (sum counts) 0
+-- the tables agree on n points
+pub record Agreed (z m : Bool) (n : ℕ) (xy zs ms : List Float) : Type 0 where
+  pub xy-has : length xy ≡ 2 * n
+  pub zs-has : length zs ≡ cond z n 0
+  pub ms-has : length ms ≡ cond m n 0
 
 -- and an i32 holds the points, and there is room for the body
 pub record Placed (z m : Bool) (counts : List ℕ) (xy zs ms : List Float) (room : ℕ) : Type 0 where
-  pub agreed : Agreed z m counts xy zs ms
+  pub agreed : Agreed z m (sum counts) xy zs ms
   pub held : sum counts < 2 ^ 31
   pub fits : bodySize z m (length counts) (sum counts) ≤ room

@@ -2,15 +2,11 @@
 use mathlib.Core.Bool.{Bool, true, false}
 use mathlib.Core.List.{List, [], _∷_, map}
 use mathlib.Core.Option.{Option, none, some}
-use Prim.Native.Nat.{ℕ, _+_}
+use Prim.Native.Nat.{ℕ}
 use lib.Ieee.{Float, binary64, toBits}
 use lib.ListN.{take, drop}
 use Rattle.format.specs.Shapes.{Point, BoxXY, Measure, Parts}
 use Rattle.header.specs.declared.bbox.BBoxZ.{BBoxZ}
-
-abbrev pub sum : List ℕ → ℕ
-sum [] = 0
-sum (n ∷ ns) = n + sum ns
 
 abbrev pub bits : Float → ℕ
 bits x = toBits binary64 x

@@ -4,9 +4,9 @@ ghost use mathlib.Core.Bool.{cond};
 ghost use Prim.Native.Nat.{_<_, _^_};
 ghost use lib.Dec.{eqb};
 ghost use lib.ListN.{length};
+ghost use Rattle.format.specs.Shapes.{sum};
 ghost use Rattle.layouts.specs.Answers.{saidLayout, layoutOf};
 ghost use Rattle.layouts.specs.Steps.{measureSize};
-ghost use Rattle.layouts.specs.Tables.{sum};
 use crate::LayoutAnswer;
 
 // Whether the counts sum to n. The sum stops where it would pass n.

@@ -4,8 +4,9 @@ ghost use Prim.Native.Nat.{_+_, _*_, _≤_, _<_, _^_};
 ghost use lib.ListN.{length};
 ghost use lib.Seq.{sets};
 ghost use Rattle.format.specs.Encoding.{measureBytes, partsBytes};
+ghost use Rattle.format.specs.Shapes.{sum};
 ghost use Rattle.layouts.specs.Steps.{measureSize, startsBytes, frontBytes, Placed};
-ghost use Rattle.layouts.specs.Tables.{sum, measureOf, partsOf};
+ghost use Rattle.layouts.specs.Tables.{measureOf, partsOf};
 use crate::judge::measure_size;
 use header::bbox::BBoxZ;
 

@@ -4,20 +4,21 @@ use mathlib.Core.List.{List, [], append-nil}
 use Prim.Native.Nat.{ℕ, _+_, _*_}
 use native.Mathlib.Nat.{zero-add}
 use native.Mathlib.Omega.{arith}
-use lib.ListN.{length, getElem?, drop, length-append}
+use lib.IntN.{pos}
+use lib.ListN.{length, drop, length-append}
 use lib.Seq.{drop-at}
 use Rattle.format.specs.declared.kinds.Kind.{Kind}
 use Rattle.format.specs.Encoding.{Box, boxDoubles, headerBytes, recordsFrom, endFrom, shpBytes, shxBytes}
-use Rattle.format.specs.Kinds.{kinds, rowOf}
+use Rattle.format.specs.Kinds.{kindAt}
 use Rattle.format.specs.Said.{gives}
 use Rattle.format.specs.Shapes.{Shape}
+use Rattle.format.proofs.Runs.{numbers}
+use Rattle.format.proofs.Places.{Stands, in-front}
 use Rattle.rules.specs.Meaning.{FileOf, Encoded}
 use Rattle.rules.specs.Rules.{Taken, Counts, bigAt, littleAt, finish, walkFrom, none-yet, verdict}
-use Rattle.meaning.proofs.Runs.{numbers}
 use Rattle.meaning.proofs.FiniteLaws.{finites-true}
 use Rattle.meaning.proofs.Header.{length-header, top-read, tail-read, magic-read, unused-read, words-read, version-read, code-read, box-read}
 use Rattle.meaning.proofs.HeaderRules.{Headers, headers-fine, name-taken}
-use Rattle.meaning.proofs.Places.{Stands, in-front}
 use Rattle.meaning.proofs.Sizes.{entriesBytes, length-records, length-entries}
 use Rattle.meaning.proofs.Skip.{plus, skips}
 use Rattle.meaning.proofs.Table.{Known, known}
@@ -84,7 +85,7 @@ module _ (k : Kind) (box : Box) (ss : List Shape) (shp shx : List ℕ) (f : File
         magic = magic-read (endFrom 50 ss) (k .code) box shp shp-header;
         unused = unused-read (endFrom 50 ss) (k .code) box shp shp-header;
         version = version-read (endFrom 50 ss) (k .code) box shp shp-header;
-        kind = record { row = ap (λ (q : ℕ). getElem? kinds (rowOf q kinds)) code-same ∙ f .kind .in-table; form = f .kind .taken };
+        kind = record { row = ap (λ (q : ℕ). kindAt (pos q)) code-same ∙ f .kind .in-table; form = f .kind .taken };
         shp-held = rw shp-words (f .is .shp-held);
         shp-words = rw (shp-words, length-shp);
         finite = finites-true 8 36 shp (rw box-same (f .box-finite));

@@ -15,17 +15,18 @@ use Rattle.format.specs.Lengths
 use Rattle.format.specs.Shapes.{Parts, parted, there, PartsOf}
 use Rattle.format.specs.WellFormed.{hasRings, leastPoints, AllFinite, PartsFine, PartsWellFormed, coordinates}
 use Rattle.format.proofs.ByteLaws.{length-leBytes}
+use Rattle.format.proofs.FiniteLaws.{finite-fit, finite-append, finite-measure}
+use Rattle.format.proofs.Places.{Stands, front, back, le-back}
+use Rattle.format.proofs.Runs.{numbers, numbers-back, run, length-run}
+use Rattle.format.proofs.Cuts.{fit-starts, cut, endsFrom, Rise, starts-ends, length-startsFrom, cut-ends}
+use Rattle.format.proofs.Doubles.{measured, writeIf, z-back}
+use Rattle.format.proofs.Pairs.{length-pairs, pairs, pairs-read}
+use Rattle.format.proofs.Doubles
+use Rattle.format.proofs.Laid.{parts-words, boxDoubles, partsDoubles, parts-laid, covers-right, length-doubles}
 use Rattle.rules.specs.Rules.{littleAt, wordsOf, pairsAt, ringsClosed}
-use Rattle.meaning.proofs.Places.{Stands, front, back, le-back}
-use Rattle.meaning.proofs.Runs.{numbers, numbers-back, run, length-run}
-use Rattle.meaning.proofs.FiniteLaws.{finite-fit, finites-true, finite-append, finite-measure}
-use Rattle.meaning.proofs.Cuts.{fit-starts, cut, endsFrom, Rise, starts-ends, length-startsFrom, cut-ends}
+use Rattle.meaning.proofs.FiniteLaws.{finites-true}
 use Rattle.meaning.proofs.Decode.{hasM, m-back, m-formula, if-only, boxAt, partsCount, partsFrom, partsAt}
-use Rattle.meaning.proofs.Doubles.{measured, writeIf, z-back}
-use Rattle.meaning.proofs.Pairs.{length-pairs, pairs, pairs-read}
-use Rattle.meaning.proofs.Doubles
 use Rattle.meaning.proofs.Ends.{endsAt, starts-at, of-rise, rise-fine, at-point, parts-closed}
-use Rattle.meaning.proofs.Laid.{parts-words, boxDoubles, partsDoubles, parts-laid, covers-right, length-doubles}
 use Rattle.meaning.proofs.Shaped.{Met}
 
 module _ (k : Kind) (l : List ℕ) (s : Parts) (o : PartsOf k s) (v : PartsWellFormed k s) (hp : Held (length (s .parts)))

@@ -4,29 +4,31 @@ use mathlib.Core.List.{List}
 use Prim.Native.Nat.{ℕ, _*_}
 use native.Mathlib.Nat.{le-refl}
 use native.Mathlib.Omega.{arith}
-use lib.ListN.{length, getElem?, drop}
+use lib.IntN.{pos}
+use lib.ListN.{length, drop}
 use Rattle.format.specs.Bytes.{field}
 use Rattle.format.specs.Encoding.{Box, headerBytes, endFrom}
-use Rattle.format.specs.Kinds.{kinds, rowOf}
+use Rattle.format.specs.Kinds.{kindAt}
 use Rattle.format.specs.WellFormed.{BoxFinite}
-use Rattle.format.proofs.ByteLaws.{AllBytes}
+use Rattle.format.proofs.ByteLaws.{AllBytes, all-drop}
+use Rattle.format.proofs.KindLaws.{found-code}
+use Rattle.format.proofs.Runs.{numbers}
+use Rattle.format.proofs.Places.{Stands}
 use Rattle.rules.specs.Meaning.{TakenKind}
 use Rattle.rules.specs.Rules.{Taken, bigAt, littleAt, walkFrom, none-yet}
-use Rattle.meaning.proofs.Runs.{numbers}
 use Rattle.meaning.proofs.FiniteLaws.{finites-all}
 use Rattle.meaning.proofs.Header.{boxOf, tail, top-right, tail-right, joined}
 use Rattle.meaning.proofs.HeaderRules.{Headers}
-use Rattle.meaning.proofs.Places.{Stands, bytes-drop}
 use Rattle.meaning.proofs.Skip.{plus, skips}
 use Rattle.meaning.proofs.Split.{Split, splits}
-use Rattle.meaning.proofs.Table.{Known, known, found-code}
+use Rattle.meaning.proofs.Table.{Known, known}
 
 module _ (shp shx : List ℕ) (b : AllBytes shp) (bx : AllBytes shx) (t : Taken) (h : Headers shp shx t) where
   code-found : t .kind .code ≡ littleAt 32 shp
   code-found = found-code (littleAt 32 shp) (t .kind) (h .kind .row)
 
   pub taken-kind : TakenKind (t .kind)
-  taken-kind = record { form = t .form; in-table = ap (λ (q : ℕ). getElem? kinds (rowOf q kinds)) code-found ∙ h .kind .row; taken = h .kind .form }
+  taken-kind = record { form = t .form; in-table = ap (λ (q : ℕ). kindAt (pos q)) code-found ∙ h .kind .row; taken = h .kind .form }
 
   kind-known : Known t
   kind-known = known _ t (h .kind .row) (h .kind .form)
@@ -48,7 +50,7 @@ module _ (shp shx : List ℕ) (b : AllBytes shp) (bx : AllBytes shx) (t : Taken)
   shx-header = joined shx (t .kind .code) box bx (h .shx-long) (h .same-top ∙ top-right shp b (h .shp-long) (h .magic) (h .unused)) (h .same-tail ∙ shp-tail)
 
   pub split : Split t (drop 100 shp) (drop 100 shx) 50 1
-  split = splits t kind-known (length (drop 100 shp)) (drop 100 shp) (drop 100 shx) 50 1 (le-refl _) (bytes-drop 100 shp b) (bytes-drop 100 shx bx)
+  split = splits t kind-known (length (drop 100 shp)) (drop 100 shp) (drop 100 shx) 50 1 (le-refl _) (all-drop 100 shp b) (all-drop 100 shx bx)
 
   pub walked : (sp : Split t (drop 100 shp) (drop 100 shx) 50 1)
       → walkFrom t (drop 100 shp) (drop 100 shx) 100 none-yet ≡ walkFrom t (sp .rest) (sp .left) (2 * endFrom 50 (sp .shapes)) (plus none-yet (sp .shapes))

@@ -12,13 +12,13 @@ use Rattle.format.specs.declared.kinds.Kind.{Kind}
 use Rattle.format.specs.Lengths.{Form, nothing, onePoint, contentWords}
 use Rattle.format.specs.Lengths
 use Rattle.format.specs.Shapes.{BoxXY, Measure, Parts, Shape, null, point, parted, there, OnlyIf}
+use Rattle.format.proofs.Runs.{numbers}
+use Rattle.format.proofs.Cuts.{cut}
+use Rattle.format.proofs.Doubles.{value, measured, count, zIn, mIn}
+use Rattle.format.proofs.Pairs.{pairs}
+use Rattle.format.proofs.Laid.{parts-words}
 use Rattle.rules.specs.Rules.{littleAt, doubleAt, wordsOf, pairsAt}
-use Rattle.meaning.proofs.Runs.{numbers}
-use Rattle.meaning.proofs.Cuts.{cut}
-use Rattle.meaning.proofs.Doubles.{value, measured, count, zIn, mIn}
-use Rattle.meaning.proofs.Pairs.{pairs}
 use Rattle.meaning.proofs.Ends.{endsAt, nowhere}
-use Rattle.meaning.proofs.Laid.{parts-words}
 
 -- ---- m
 

@@ -8,9 +8,10 @@ use lib.ListN.{length, getD, take}
 use Rattle.format.specs.declared.kinds.Kind.{Kind}
 use Rattle.format.specs.Encoding.{shapeWords, twoBig, recordBytes, recordsFrom, entriesFrom, endFrom, Held, HeldFrom}
 use Rattle.format.specs.Shapes.{Shape, null, OfKind}
+use Rattle.format.proofs.Laid.{length-record}
+use Rattle.format.proofs.NumberLaws.{length-two}
+use Rattle.format.proofs.Places.{Stands, front, back}
 use Rattle.rules.specs.Meaning.{AllWellFormed}
-use Rattle.meaning.proofs.Places.{Stands, front, back}
-use Rattle.meaning.proofs.Record.{length-two, length-record}
 use Rattle.meaning.proofs.Sizes.{entriesBytes}
 
 -- the word at which record i of them stands, where the first stands at word w

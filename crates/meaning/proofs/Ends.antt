@@ -12,11 +12,11 @@ use borrow.Author.Tests.{le-leb, leb-true}
 use Rattle.format.specs.declared.kinds.Kind.{Kind}
 use Rattle.format.specs.Shapes.{Point}
 use Rattle.format.specs.WellFormed.{hasRings, leastPoints, samePlace, lastFrom, closedRing, PartsFine}
+use Rattle.format.proofs.OrderLaws.{both-true}
+use Rattle.format.proofs.Runs.{numbers, number-at}
+use Rattle.format.proofs.Cuts.{cut, endsFrom, Rise, rise-le}
+use Rattle.format.proofs.Pairs.{pairs, pair-at}
 use Rattle.rules.specs.Rules.{littleAt, endOf, partsLong, ringClosed, ringsClosed, xOf, yOf}
-use Rattle.meaning.proofs.Runs.{numbers, number-at}
-use Rattle.meaning.proofs.Cuts.{cut, endsFrom, Rise, rise-le}
-use Rattle.meaning.proofs.Pairs.{pairs, pair-at}
-use Rattle.meaning.proofs.Tests.{and-true}
 
 -- where each of r parts ends; at `at` stands the start of the second, and the last one ends at n
 unfoldable pub endsAt : ℕ → ℕ → ℕ → List ℕ → List ℕ
@@ -40,9 +40,9 @@ starts-at (suc (suc r)) at n l h = ap (_∷_ (littleAt at l)) (starts-at (suc r)
 pub rise-of : (least r at cur n : ℕ) (l : List ℕ) → 1 ≤ r → partsLong least r at cur n l ≡ true → Rise least cur (endsAt r at n l) n
 unfolding partsLong endsAt
 rise-of least zero at cur n l h e = absurd (omega arith)
-rise-of least (suc zero) at cur n l h e = (leb-true _ _ (and-true (leb (cur + least) n) true e .0), refl)
+rise-of least (suc zero) at cur n l h e = (leb-true _ _ (both-true (leb (cur + least) n) true e .0), refl)
 rise-of least (suc (suc r)) at cur n l h e =
-    let p = and-true (leb (cur + least) (littleAt at l)) (partsLong least (suc r) (at + 4) (littleAt at l) n l) e in
+    let p = both-true (leb (cur + least) (littleAt at l)) (partsLong least (suc r) (at + 4) (littleAt at l) n l) e in
     (leb-true _ _ (p .0), rise-of least (suc r) (at + 4) (littleAt at l) n l (omega arith) (p .1))
 
 pub of-rise : (least r at cur n : ℕ) (l : List ℕ) → Rise least cur (endsAt r at n l) n → partsLong least r at cur n l ≡ true
@@ -124,7 +124,7 @@ module _ (k : Kind) (ps : List Point) (pts n : ℕ) (l : List ℕ) (size : lengt
       let e = endOf r at l n in
       let j : e ≤ n = rise-le (leastPoints k) e (endsAt r (at + 4) n l) n (h .1) in
       let both : hasRings k ≡ true → (ringClosed pts cur e l ≡ true) × (ringsClosed pts r (at + 4) e n l ≡ true)
-      = λ q. and-true (ringClosed pts cur e l) (ringsClosed pts r (at + 4) e n l) (c q) in
+      = λ q. both-true (ringClosed pts cur e l) (ringsClosed pts r (at + 4) e n l) (c q) in
       let lg : length (take (e - cur) (drop cur ps)) ≡ e - cur = length-take-le (e - cur) (drop cur ps) (rw length-drop (omega arith)) in (
         omega arith,
         (λ q. sym (ring-same cur e (omega (arith, least-some k)) j) ∙ both q .0),

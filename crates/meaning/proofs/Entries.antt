@@ -7,12 +7,14 @@ use lib.ListN.{length, getD}
 use Rattle.format.specs.declared.kinds.Kind.{Kind}
 use Rattle.format.specs.Encoding.{Box, shapeWords, content, twoBig, recordBytes, recordsFrom, Held}
 use Rattle.format.specs.Shapes.{Shape, null, OfKind}
+use Rattle.format.proofs.Laid.{length-content, length-record}
+use Rattle.format.proofs.NumberLaws.{length-two}
+use Rattle.format.proofs.Places.{Stands, all-behind, front, back, field-stands, stands-within}
 use Rattle.rules.specs.Meaning.{FileOf}
 use Rattle.meaning.specs.Consequences.{entryAt, offsetOf, extentOf, NamesRecord, HoldsShape}
 use Rattle.meaning.proofs.Always.{records-behind, entries-behind}
 use Rattle.meaning.proofs.EachRecord.{wordOf, record-placed, entry-placed, held-at, kind-at}
-use Rattle.meaning.proofs.Places.{Stands, all-behind, front, back, field-stands, stands-within}
-use Rattle.meaning.proofs.Record.{length-two, length-content, length-record, first-read, second-read}
+use Rattle.meaning.proofs.Record.{first-read, second-read}
 use Rattle.meaning.proofs.Sizes.{entriesBytes}
 
 module _ (kind : Kind) (box : Box) (ss : List Shape) (shp shx : List ℕ) (f : FileOf kind box ss shp shx) (i : ℕ) (inside : i < length ss) where

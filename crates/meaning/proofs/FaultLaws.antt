@@ -2,15 +2,14 @@
 use mathlib.Core.Path.{_≡_}
 use mathlib.Core.Bool.{_&&_}
 use mathlib.Core.List.{List, _++_}
-use Prim.Native.Nat.{ℕ, suc, _+_, _*_, _≤_}
-use native.Mathlib.Omega.{arith}
+use Prim.Native.Nat.{ℕ, _+_, _*_, _≤_}
 use lib.Dec.{leb, eqb}
 use lib.ListN.{length}
 use borrow.Author.Tests.{le-leb, leb-true, lt-ltb, ltb-true, eq-eqb, eqb-true}
 use Rattle.format.specs.Encoding.{Held}
+use Rattle.format.proofs.OrderLaws.{both-true, _then_, all-pass, no-fault}
 use Rattle.rules.specs.Rules.{Taken, bigAt, littleAt, held, wordsOf, partsOf, pointsOf, headRules, shapeRules, recordFault}
 use Rattle.meaning.proofs.Shaped.{Met}
-use Rattle.meaning.proofs.Tests.{and-true, _then_, pass, no-fault}
 
 -- the record of number k at `at`, of which l is what begins with it and x what begins with its entry
 pub record Fine (t : Taken) (l x : List ℕ) (at k : ℕ) : Type 0 where
@@ -32,17 +31,16 @@ module _ (t : Taken) (l x : List ℕ) (at k : ℕ) where
   pub fine : recordFault t l x at k ≡ 0 → Fine t l x at k
   unfolding recordFault
   fine e =
-      let not : (r : ℕ) → suc r ≡ 0 → ⊥ = λ r z. omega arith in
-      let p = pass (headRules t l x at k ++ shapeRules t l) (not 8 then not 9 then not 10 then not 11 then not 12 then not 13 then not 14 then not 15 then tt) e in
-      let p9 = and-true (leb 8 (length l) && eqb (bigAt 0 l) k) (held k) (p .0) in
-      let p9′ = and-true (leb 8 (length l)) (eqb (bigAt 0 l) k) (p9 .0) in
-      let p10 = and-true (held (wordsOf l) && leb 2 (wordsOf l)) (leb (8 + 2 * wordsOf l) (length l)) (p .1 .0) in
-      let p10′ = and-true (held (wordsOf l)) (leb 2 (wordsOf l)) (p10 .0) in
-      let p11 = and-true (leb 8 (length x) && held (bigAt 0 x) && eqb (2 * bigAt 0 x) at) (eqb (bigAt 4 x) (wordsOf l)) (p .1 .1 .0) in
-      let p11′ = and-true (leb 8 (length x) && held (bigAt 0 x)) (eqb (2 * bigAt 0 x) at) (p11 .0) in
-      let p11″ = and-true (leb 8 (length x)) (held (bigAt 0 x)) (p11′ .0) in
-      let p13 = and-true (held (partsOf (t .form) l) && held (pointsOf (t .form) l)) _ (p .1 .1 .1 .1 .0) in
-      let p13′ = and-true (held (partsOf (t .form) l)) (held (pointsOf (t .form) l)) (p13 .0) in
+      let p = no-fault (headRules t l x at k ++ shapeRules t l) tt e in
+      let p9 = both-true (leb 8 (length l) && eqb (bigAt 0 l) k) (held k) (p 0) in
+      let p9′ = both-true (leb 8 (length l)) (eqb (bigAt 0 l) k) (p9 .0) in
+      let p10 = both-true (held (wordsOf l) && leb 2 (wordsOf l)) (leb (8 + 2 * wordsOf l) (length l)) (p 1) in
+      let p10′ = both-true (held (wordsOf l)) (leb 2 (wordsOf l)) (p10 .0) in
+      let p11 = both-true (leb 8 (length x) && held (bigAt 0 x) && eqb (2 * bigAt 0 x) at) (eqb (bigAt 4 x) (wordsOf l)) (p 2) in
+      let p11′ = both-true (leb 8 (length x) && held (bigAt 0 x)) (eqb (2 * bigAt 0 x) at) (p11 .0) in
+      let p11″ = both-true (leb 8 (length x)) (held (bigAt 0 x)) (p11′ .0) in
+      let p13 = both-true (held (partsOf (t .form) l) && held (pointsOf (t .form) l)) _ (p 4) in
+      let p13′ = both-true (held (partsOf (t .form) l)) (held (pointsOf (t .form) l)) (p13 .0) in
       record {
         header = leb-true _ _ (p9′ .0);
         number = eqb-true _ _ (p9′ .1);
@@ -53,23 +51,23 @@ module _ (t : Taken) (l x : List ℕ) (at k : ℕ) where
         offset-held = ltb-true _ _ (p11″ .1);
         offset = eqb-true _ _ (p11′ .1);
         extent = eqb-true _ _ (p11 .1);
-        code = eqb-true _ _ (p .1 .1 .1 .0);
+        code = eqb-true _ _ (p 3);
         parts-held = ltb-true _ _ (p13′ .0);
         points-held = ltb-true _ _ (p13′ .1);
         met =
             record {
               within = leb-true _ _ (p10 .1);
-              p13 = p .1 .1 .1 .1 .0;
-              p14 = p .1 .1 .1 .1 .1 .0;
-              p15 = p .1 .1 .1 .1 .1 .1 .0;
-              p16 = p .1 .1 .1 .1 .1 .1 .1 .0;
+              p13 = p 4;
+              p14 = p 5;
+              p15 = p 6;
+              p16 = p 7;
             };
       }
 
   pub faultless : Fine t l x at k → recordFault t l x at k ≡ 0
   unfolding recordFault
   faultless f =
-      no-fault (headRules t l x at k ++ shapeRules t l)
+      all-pass (headRules t l x at k ++ shapeRules t l) 0
       ((rw (le-leb _ _ (f .header), eq-eqb _ _ (f .number), lt-ltb _ _ (f .number-held)))
       then (rw (lt-ltb _ _ (f .words-held), le-leb _ _ (f .words-two), le-leb _ _ (f .met .within)))
       then (rw (le-leb _ _ (f .entry), lt-ltb _ _ (f .offset-held), eq-eqb _ _ (f .offset), eq-eqb _ _ (f .extent)))

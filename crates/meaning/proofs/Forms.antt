@@ -14,14 +14,13 @@ use Rattle.format.specs.Lengths
 use Rattle.format.specs.Shapes.{Shape, null, point, parted, OfKind, partsIn, pointsIn}
 use Rattle.format.specs.WellFormed.{hasRings, WellFormed}
 use Rattle.format.proofs.ByteLaws.{AllBytes}
+use Rattle.format.proofs.Places.{Stands}
 use Rattle.rules.specs.Rules.{Taken, wordsOf, partsOf, pointsOf}
 use Rattle.meaning.proofs.BackParts.{parts-read, points-read, parts-same, parts-met}
 use Rattle.meaning.proofs.Decode.{shapeAt}
-use Rattle.meaning.proofs.Places.{Stands}
-use Rattle.meaning.proofs.Points.{read-point, point-same, point-met}
+use Rattle.meaning.proofs.Points.{same-twice, read-point, point-same, point-met}
 use Rattle.meaning.proofs.ReadParts.{read-parts}
 use Rattle.meaning.proofs.Shaped.{Met, Shaped}
-use Rattle.meaning.proofs.Tests.{same-twice}
 
 read-nothing : (k : Kind) (l : List ℕ) → formOf k ≡ some nothing → Met (record { kind = k; form = nothing }) l → Shaped (record { kind = k; form = nothing }) l null
 unfolding shapeWords shapeBytes partsIn pointsIn contentWords fixedWords pointWords

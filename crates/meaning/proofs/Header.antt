@@ -10,11 +10,11 @@ use Rattle.format.specs.Encoding.{Box, boxDoubles, headerBytes}
 use Rattle.format.specs.Numbers.{big, little, double}
 use Rattle.format.specs.WellFormed.{BoxFinite}
 use Rattle.format.proofs.ByteLaws.{AllBytes}
+use Rattle.format.proofs.FiniteLaws.{finite-fit}
 use Rattle.format.proofs.NumberLaws.{length-big, length-little}
+use Rattle.format.proofs.Runs.{numbers, numbers-back, run, run-stands, length-run}
+use Rattle.format.proofs.Places.{Stands, join, front, back, le-back, be-back, le-stands, be-stands, field-stands, stands-field}
 use Rattle.rules.specs.Rules.{bigAt, littleAt}
-use Rattle.meaning.proofs.Runs.{numbers, numbers-back, run, run-stands, length-run}
-use Rattle.meaning.proofs.FiniteLaws.{finite-fit}
-use Rattle.meaning.proofs.Places.{Stands, join, front, back, le-back, be-back, le-stands, be-stands, field-stands, stands-field}
 
 abbrev pub zeros : List ℕ
 zeros = replicate 20 0

@@ -1,6 +1,6 @@
 -- A record with one point: where it meets the rules it holds the point that is read from it, and a finite point that stands there meets them.
 use mathlib.Core.Path.{_≡_, refl, sym, ap, _∙_, subst}
-use mathlib.Core.Bool.{false}
+use mathlib.Core.Bool.{Bool, true, false, _||_}
 use mathlib.Core.List.{List, [], _∷_}
 use mathlib.Core.Option.{Option, some}
 use Prim.Native.Nat.{ℕ, _+_, _*_, _-_, _/_, _≤_}
@@ -13,17 +13,21 @@ use Rattle.format.specs.Lengths.{onePoint, formOf, contentWords}
 use Rattle.format.specs.Shapes.{Point, point, there, partsIn, pointsIn, PointOf}
 use Rattle.format.specs.WellFormed.{hasRings, AllFinite, PointWellFormed}
 use Rattle.format.proofs.ByteLaws.{AllBytes}
+use Rattle.format.proofs.FiniteLaws.{finite-fit, finite-append, finite-front, finite-back, value-finite, finite-value}
+use Rattle.format.proofs.Places.{Stands}
+use Rattle.format.proofs.Runs.{numbers, numbers-back, run, run-stands, length-numbers}
+use Rattle.format.proofs.Doubles.{value, writeIf, there-read, zIn, mIn, all-written, length-all, z-back, m-back}
+use Rattle.format.proofs.Pairs.{pairs}
+use Rattle.format.proofs.Laid.{point-words, pointDoubles, point-laid, any-right}
 use Rattle.rules.specs.Rules.{wordsOf}
-use Rattle.meaning.proofs.Places.{Stands}
-use Rattle.meaning.proofs.Runs.{numbers, numbers-back, run, run-stands, length-numbers}
 use Rattle.meaning.proofs.Decode.{pointCount, pointFrom, shapeAt}
-use Rattle.meaning.proofs.Doubles.{value, writeIf, there-read, zIn, mIn, all-written, length-all, z-back, m-back}
-use Rattle.meaning.proofs.Pairs.{pairs}
 use Rattle.meaning.proofs.Ends.{nowhere}
-use Rattle.meaning.proofs.FiniteLaws.{finites-all, finites-true, finite-fit, finite-append, finite-front, finite-back, value-finite, finite-value}
-use Rattle.meaning.proofs.Laid.{point-words, pointDoubles, point-laid, any-right}
+use Rattle.meaning.proofs.FiniteLaws.{finites-all, finites-true}
 use Rattle.meaning.proofs.Shaped.{Met, Shaped}
-use Rattle.meaning.proofs.Tests.{same-twice}
+
+pub same-twice : (a : Bool) → (a || a) ≡ true → a ≡ true
+same-twice true e = refl
+same-twice false e = e
 
 module _ (k : Kind) (l : List ℕ) (b : AllBytes l) (f : formOf k ≡ some onePoint) (met : Met (record { kind = k; form = onePoint }) l) where
   abbrev ds : List ℕ

@@ -16,18 +16,19 @@ use Rattle.format.specs.Lengths
 use Rattle.format.specs.Shapes.{Point, Parts, parted, there, partsIn, pointsIn, PartsOf}
 use Rattle.format.specs.WellFormed.{leastPoints, AllFinite, PartsFine, PartsWellFormed, coordinates}
 use Rattle.format.proofs.ByteLaws.{AllBytes, length-leBytes}
+use Rattle.format.proofs.FiniteLaws.{finite-front, finite-back, measure-finite}
+use Rattle.format.proofs.OrderLaws.{both-true}
+use Rattle.format.proofs.Places.{Stands, join, le-stands}
+use Rattle.format.proofs.Runs.{numbers, run, run-stands, length-numbers, length-run}
+use Rattle.format.proofs.Cuts.{Rise, starts-ends, flatten-cut, ends-cut, length-cut}
+use Rattle.format.proofs.Doubles.{measured, writeIf, there-read, z-right, m-right, all, all-written}
+use Rattle.format.proofs.Pairs.{pairs, length-pairs}
+use Rattle.format.proofs.Laid.{parts-words, partsDoubles, parts-laid, right-covers}
 use Rattle.rules.specs.Rules.{littleAt, wordsOf, pairsAt, held, finites, partsLong}
-use Rattle.meaning.proofs.Places.{Stands, join, le-stands}
-use Rattle.meaning.proofs.Runs.{numbers, run, run-stands, length-numbers, length-run}
-use Rattle.meaning.proofs.FiniteLaws.{finites-all, finite-front, finite-back, measure-finite}
-use Rattle.meaning.proofs.Cuts.{Rise, starts-ends, flatten-cut, ends-cut, length-cut}
+use Rattle.meaning.proofs.FiniteLaws.{finites-all}
 use Rattle.meaning.proofs.Decode.{hasM, m-words, partsCount, partsFrom, partsAt, shapeAt, only-if}
-use Rattle.meaning.proofs.Doubles.{measured, writeIf, there-read, z-right, m-right, all, all-written}
-use Rattle.meaning.proofs.Pairs.{pairs, length-pairs}
 use Rattle.meaning.proofs.Ends.{endsAt, length-endsAt, starts-at, rise-of, at-point, parts-fine}
-use Rattle.meaning.proofs.Laid.{parts-words, partsDoubles, parts-laid, right-covers}
 use Rattle.meaning.proofs.Shaped.{Met, Shaped}
-use Rattle.meaning.proofs.Tests.{and-true}
 
 module _ (k : Kind) (l : List ℕ) (b : AllBytes l) (f : formOf k ≡ some Lengths.parts) (met : Met (record { kind = k; form = Lengths.parts }) l) where
   abbrev p : ℕ
@@ -37,7 +38,7 @@ module _ (k : Kind) (l : List ℕ) (b : AllBytes l) (f : formOf k ≡ some Lengt
   n = littleAt 48 l
 
   test13 : (eqb (wordsOf l) (contentWords Lengths.parts (k .z) false p n) || eqb (wordsOf l) (contentWords Lengths.parts (k .z) (k .m) p n)) ≡ true
-  test13 = and-true (held p && held n) _ (met .p13) .1
+  test13 = both-true (held p && held n) _ (met .p13) .1
 
   words : wordsOf l ≡ contentWords Lengths.parts (k .z) (hasM k l) p n
   words = m-words (k .z) p n (wordsOf l) (k .m) test13
@@ -46,13 +47,13 @@ module _ (k : Kind) (l : List ℕ) (b : AllBytes l) (f : formOf k ≡ some Lengt
   words-are = words ∙ parts-words (k .z) (hasM k l) p n
 
   test14 : (leb 1 p && eqb (littleAt 52 l) 0 ≡ true) × (partsLong (leastPoints k) p 56 0 n l ≡ true)
-  test14 = and-true _ _ (met .p14)
+  test14 = both-true _ _ (met .p14)
 
   some-part : 1 ≤ p
-  some-part = leb-true 1 p (and-true _ _ (test14 .0) .0)
+  some-part = leb-true 1 p (both-true _ _ (test14 .0) .0)
 
   first-start : littleAt 52 l ≡ 0
-  first-start = eqb-true _ _ (and-true (leb 1 p) _ (test14 .0) .1)
+  first-start = eqb-true _ _ (both-true (leb 1 p) _ (test14 .0) .1)
 
   rise : Rise (leastPoints k) 0 (endsAt p 56 n l) n
   rise = rise-of (leastPoints k) p 56 0 n l some-part (test14 .1)
@@ -116,7 +117,7 @@ module _ (k : Kind) (l : List ℕ) (b : AllBytes l) (f : formOf k ≡ some Lengt
 
   -- what is finite
   test16 : (finites 4 12 l ≡ true) × (finites ((wordsOf l - 22 - 2 * p) / 4) (pairsAt l) l ≡ true)
-  test16 = and-true _ _ (met .p16)
+  test16 = both-true _ _ (met .p16)
 
   ds-finite : AllFinite ds
   ds-finite =

@@ -3,28 +3,24 @@ use mathlib.Core.Path.{_≡_, sym, ap, _∙_}
 use mathlib.Core.List.{List, _++_}
 use Prim.Native.Nat.{ℕ, _+_, _*_, _^_, _≤_, _<_}
 use native.Mathlib.Omega.{arith}
-use lib.ListN.{length, length-append}
+use lib.ListN.{length}
 use Rattle.format.specs.declared.kinds.Kind.{Kind}
 use Rattle.format.specs.Encoding.{shapeBytes, shapeWords, content, twoBig, recordBytes, Held}
 use Rattle.format.specs.Numbers.{big, little}
 use Rattle.format.specs.Shapes.{Shape, OfKind, partsIn, pointsIn}
 use Rattle.format.specs.WellFormed.{WellFormed}
 use Rattle.format.proofs.ByteLaws.{AllBytes}
-use Rattle.format.proofs.NumberLaws.{length-big, length-little}
+use Rattle.format.proofs.NumberLaws.{length-big, length-little, length-two}
+use Rattle.format.proofs.Laid.{length-shape, length-record}
+use Rattle.format.proofs.Places.{Stands, join, front, back, le-back, be-back, le-stands, be-stands, stands-within}
 use Rattle.rules.specs.Rules.{Taken, bigAt, littleAt, wordsOf}
 use Rattle.meaning.proofs.Decode.{shapeAt}
 use Rattle.meaning.proofs.FaultLaws.{Fine}
 use Rattle.meaning.proofs.Forms.{read, Back, back-as}
-use Rattle.meaning.proofs.Laid.{length-shape}
-use Rattle.meaning.proofs.Places.{Stands, join, front, back, le-back, be-back, le-stands, be-stands, stands-within}
 use Rattle.meaning.proofs.Table.{Known}
 use Rattle.meaning.proofs.Shaped.{Shaped}
 
 -- ---- two big numbers
-
-pub length-two : (a b : ℕ) → length (twoBig a b) ≡ 8
-unfolding twoBig
-length-two a b = simp (length-append, length-big)
 
 module _ (a b at : ℕ) (l : List ℕ) (st : Stands at (twoBig a b) l) where
   pub first-read : a < 2 ^ 32 → bigAt at l ≡ a
@@ -38,16 +34,6 @@ module _ (a b at : ℕ) (l : List ℕ) (st : Stands at (twoBig a b) l) where
 two-stands : (l : List ℕ) → AllBytes l → 8 ≤ length l → Stands 0 (twoBig (bigAt 0 l) (bigAt 4 l)) l
 unfolding twoBig big
 two-stands l b h = join 0 4 (big (bigAt 0 l)) (big (bigAt 4 l)) l (length-big _) (be-stands 4 0 l b (omega arith)) (be-stands 4 4 l b (omega arith))
-
--- ---- lengths
-
-pub length-content : (k : Kind) (s : Shape) → OfKind k s → length (content k s) ≡ 2 * shapeWords s
-unfolding content
-length-content k s o = rw (length-append, length-little) (length-shape k s o)
-
-pub length-record : (k : Kind) (n : ℕ) (s : Shape) → OfKind k s → length (recordBytes k n s) ≡ 8 + 2 * shapeWords s
-unfolding recordBytes
-length-record k n s o = rw (length-append, length-two, length-content k s o)
 
 -- a well-formed shape of the kind, as record n at word w, with its numbers held
 pub record Encodable (k : Kind) (n w : ℕ) (s : Shape) : Type 0 where

@@ -7,8 +7,8 @@ use lib.ListN.{length}
 use Rattle.format.specs.Encoding.{shapeBytes, shapeWords}
 use Rattle.format.specs.Shapes.{Shape, OfKind, partsIn, pointsIn}
 use Rattle.format.specs.WellFormed.{WellFormed}
+use Rattle.format.proofs.Places.{Stands}
 use Rattle.rules.specs.Rules.{Taken, wordsOf, partsOf, pointsOf, P13, P14, P15, P16}
-use Rattle.meaning.proofs.Places.{Stands}
 
 pub record Met (t : Taken) (l : List ℕ) : Type 0 where
   pub within : 8 + 2 * wordsOf l ≤ length l

@@ -7,8 +7,9 @@ use lib.ListN.{length, length-append}
 use Rattle.format.specs.declared.kinds.Kind.{Kind}
 use Rattle.format.specs.Encoding.{shapeWords, twoBig, recordBytes, recordsFrom, entriesFrom, entryBytes, endFrom}
 use Rattle.format.specs.Shapes.{Shape}
+use Rattle.format.proofs.Laid.{length-record}
+use Rattle.format.proofs.NumberLaws.{length-two}
 use Rattle.rules.specs.Meaning.{AllWellFormed}
-use Rattle.meaning.proofs.Record.{length-two, length-record}
 
 abbrev pub entriesBytes : ℕ → List Shape → List ℕ
 entriesBytes w ss = flatten (map entryBytes (entriesFrom w ss))

@@ -8,13 +8,15 @@ use lib.ListN.{length, drop, length-append}
 use lib.Seq.{drop-at}
 use Rattle.format.specs.Encoding.{shapeWords, twoBig, recordBytes, recordsFrom, entriesFrom, endFrom, HeldFrom}
 use Rattle.format.specs.Shapes.{Shape, OfKind, partsIn, pointsIn}
+use Rattle.format.proofs.Laid.{length-record}
+use Rattle.format.proofs.NumberLaws.{length-two}
+use Rattle.format.proofs.Places.{in-front}
 use Rattle.rules.specs.Meaning.{AllWellFormed, allParts, allPoints}
 use Rattle.rules.specs.Rules.{Taken, Counts, wordsOf, size, recordFault, orOn, walkFrom}
 use Rattle.meaning.proofs.Decode.{shapeAt}
 use Rattle.meaning.proofs.FaultLaws.{Fine, faultless}
 use Rattle.meaning.proofs.Forms.{Back}
-use Rattle.meaning.proofs.Places.{in-front}
-use Rattle.meaning.proofs.Record.{Encodable, length-two, length-record, words-read, read-back, fine-record}
+use Rattle.meaning.proofs.Record.{Encodable, words-read, read-back, fine-record}
 use Rattle.meaning.proofs.Sizes.{entriesBytes}
 use Rattle.meaning.proofs.Table.{Known}
 use Rattle.meaning.proofs.WalkLaws.{next, walk-record}

@@ -8,12 +8,13 @@ use native.Mathlib.Omega.{arith}
 use lib.ListN.{length, drop, length-drop}
 use Rattle.format.specs.Encoding.{shapeWords, twoBig, recordBytes, recordsFrom, entriesFrom, endFrom, HeldFrom}
 use Rattle.format.specs.Shapes.{Shape}
-use Rattle.format.proofs.ByteLaws.{AllBytes}
+use Rattle.format.proofs.ByteLaws.{AllBytes, all-drop}
+use Rattle.format.proofs.Laid.{length-record}
+use Rattle.format.proofs.NumberLaws.{length-two}
 use Rattle.rules.specs.Meaning.{AllWellFormed}
 use Rattle.rules.specs.Rules.{Taken, wordsOf, size, recordFault}
 use Rattle.meaning.proofs.FaultLaws.{Fine, fine}
-use Rattle.meaning.proofs.Places.{bytes-drop}
-use Rattle.meaning.proofs.Record.{length-two, length-record, encodable, shape, shaped, record-stands, entry-stands}
+use Rattle.meaning.proofs.Record.{encodable, shape, shaped, record-stands, entry-stands}
 use Rattle.meaning.proofs.Sizes.{entriesBytes}
 use Rattle.meaning.proofs.Table.{Known}
 
@@ -68,5 +69,5 @@ module _ (t : Taken) (known : Known t) where
   splits (suc fuel) (a ∷ l) x w n h b bx =
       let s : List ℕ = a ∷ l in
       let less : length (drop (size s) s) ≤ fuel = rw length-drop (omega arith) in
-      let more = splits fuel (drop (size s) s) (drop 8 x) (w + (4 + wordsOf s)) (n + 1) less (bytes-drop (size s) s b) (bytes-drop 8 x bx) in
+      let more = splits fuel (drop (size s) s) (drop 8 x) (w + (4 + wordsOf s)) (n + 1) less (all-drop (size s) s b) (all-drop 8 x bx) in
       by-fault s x w n (omega arith) b bx more (recordFault t s x (2 * w) n) refl

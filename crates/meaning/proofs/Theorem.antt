@@ -4,10 +4,10 @@ use mathlib.Core.Path.{_≡_, sym, ap, _∙_, subst}
 use mathlib.Core.List.{List}
 use mathlib.Core.Option.{some}
 use Prim.Native.Nat.{ℕ}
-use lib.ListN.{getElem?}
+use lib.IntN.{pos}
 use Rattle.format.specs.declared.kinds.Kind.{Kind}
 use Rattle.format.specs.Encoding.{Box}
-use Rattle.format.specs.Kinds.{kinds, rowOf}
+use Rattle.format.specs.Kinds.{kindAt}
 use Rattle.format.specs.Shapes.{Shape}
 use Rattle.format.proofs.ByteLaws.{AllBytes}
 use Rattle.rules.specs.Meaning.{FileOf, Judged}
@@ -21,7 +21,7 @@ module _ (shp shx : List ℕ) (k k′ : Kind) (b b′ : Box) (ss ss′ : List Sh
   same-kind : k ≡ k′
   same-kind =
       let code : k .code ≡ k′ .code = sym (code-same k b ss shp shx f) ∙ code-same k′ b′ ss′ shp shx g in
-      let row : some k ≡ some k′ = sym (f .kind .in-table) ∙ (ap (λ (q : ℕ). getElem? kinds (rowOf q kinds)) code ∙ g .kind .in-table) in
+      let row : some k ≡ some k′ = sym (f .kind .in-table) ∙ (ap (λ (q : ℕ). kindAt (pos q)) code ∙ g .kind .in-table) in
       cc
 
   same-box : b ≡ b′

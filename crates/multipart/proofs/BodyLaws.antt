@@ -1,22 +1,22 @@
 -- Laws of a body: where its values stand and that they fit, and what is said of it, by the tests that pass and the one that fails.
-use mathlib.Core.Path.{_≡_, refl, sym, ap, _∙_, subst}
+use mathlib.Core.Path.{_≡_, sym, ap, _∙_}
 use mathlib.Core.Bool.{Bool, true, false, cond, not, _&&_, _||_}
 use mathlib.Core.List.{List, [], _++_, map}
 use Prim.Native.Nat.{ℕ, _+_, _*_, _≤_}
 use native.Mathlib.Omega.{arith}
-use lib.Dec.{T, leb}
+use lib.Dec.{leb}
 use lib.IntN.{ℤ}
 use lib.ListN.{length}
 use borrow.Author.Tests.{leb-true}
 use Rattle.format.specs.Numbers.{doublesAt}
 use Rattle.format.specs.Order.{first}
 use Rattle.format.specs.Said.{Said, gives, room}
+use Rattle.format.proofs.OrderLaws.{first-append, both-true}
 use Rattle.multipart.specs.declared.Body.{Body}
 use Rattle.multipart.specs.Body.{partsIn, countsIn, pointsIn, pairsAt, zAt, mAt, raised, xyIn, zIn, mIn, bodyIn, countTests, restTests, hasRoom, roomTests, bodyOf}
 use Rattle.multipart.specs.Parts.{countOf}
 use Rattle.multipart.specs.Walks.{Passes, Refuses, differencesOf, endAfter, Ready}
 use Rattle.multipart.proofs.RestLaws.{z-place}
-use Rattle.multipart.proofs.TestLaws.{first-append}
 
 -- ---- where it stands
 
@@ -42,10 +42,6 @@ module _ (z m : Bool) (s : List ℕ) (points end : ℕ) (points-are : points ≡
   m-range-inside = rw m-place (omega (arith, ends, range-le m (pointsIn s)))
 
 -- ---- that it fits
-
-both-true : (a b : Bool) → (a && b) ≡ true → (a ≡ true) × (b ≡ true)
-both-true true b e = (refl, e)
-both-true false b e = absurd (subst T (sym e) tt)
 
 -- a store that is used has room
 used-room : (flag : Bool) (n k : ℕ) → (not flag || leb n k) ≡ true → cond flag n 0 ≤ k

@@ -12,12 +12,12 @@ use borrow.Author.Tests.{leb-true}
 use Rattle.format.specs.Numbers.{leI32}
 use Rattle.format.specs.Order.{first, fieldsFrom}
 use Rattle.format.specs.Said.{Said, gives, refuses, short}
-use Rattle.format.proofs.OrderLaws.{rest, okAt, noAt, on, stop, fields-whole, fields-cut, passed, given}
+use Rattle.format.proofs.OrderLaws.{rest, okAt, noAt, on, stop, fields-whole, fields-cut, passed, given, first-append}
 use Rattle.multipart.specs.declared.Body.{Body}
 use Rattle.multipart.specs.Answers.{Two, countsOf}
 use Rattle.multipart.specs.Body.{countTests}
 use Rattle.multipart.specs.Walks.{Refuses, Counted}
-use Rattle.multipart.proofs.TestLaws.{first-append, carry, first-carry}
+use Rattle.multipart.proofs.TestLaws.{carry, first-carry}
 
 abbrev two : ℕ → ℕ → Two
 two p n = record { parts = p; points = n }

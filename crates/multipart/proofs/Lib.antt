@@ -2,8 +2,9 @@
 mod BodyLaws
 mod CountLaws
 pub mod Determined
+pub mod NearLaws
 mod PartLaws
-mod RestLaws
+pub mod RestLaws
 mod StoreLaws
-pub mod TestLaws
+mod TestLaws
 mod WalkLaws

@@ -10,13 +10,12 @@ use lib.ListN.{length}
 use Rattle.format.specs.Numbers.{leI32}
 use Rattle.format.specs.Order.{first, fieldsFrom}
 use Rattle.format.specs.Said.{Said, short}
-use Rattle.format.proofs.OrderLaws.{fields-whole, fields-cut}
+use Rattle.format.proofs.OrderLaws.{fields-whole, fields-cut, first-append}
 use Rattle.multipart.specs.declared.Body.{Body}
 use Rattle.multipart.specs.declared.judge.Walk.{Walk}
 use Rattle.multipart.specs.declared.judge.Walk.the-variants.{On, Short, Size}
 use Rattle.multipart.specs.Body.{partsIn, differencesIn, countsIn, pointsIn, pairsAt, zAt, mAt, partTests, measureTests, restTests}
 use Rattle.multipart.specs.Walks.{Passes, Refuses, Finds, PartsWalk, MeasureWalk}
-use Rattle.multipart.proofs.TestLaws.{first-append}
 
 -- ---- one list of tests after another
 
@@ -27,8 +26,8 @@ module _ (ts us : List (Bool × Said Body)) where
   later : (r : Said Body) → Passes ts → Refuses us r → Refuses (ts ++ us) r
   later r p h a = first-append ts us a ∙ (p (first us a) ∙ h a)
 
-  both : Passes ts → Passes us → Passes (ts ++ us)
-  both p q a = first-append ts us a ∙ (p (first us a) ∙ q a)
+  pub both-pass : Passes ts → Passes us → Passes (ts ++ us)
+  both-pass p q a = first-append ts us a ∙ (p (first us a) ∙ q a)
 
 -- ---- in turn
 
@@ -72,7 +71,7 @@ module _ (z m : Bool) (s : List ℕ) where
         m-stop r e = after-parts r (later zTests mTests r q e)
 
         pub rest-pass : Passes mTests → Passes (restTests z m s)
-        rest-pass e = both startTests (partsTests ++ (zTests ++ mTests)) starts-pass (both partsTests (zTests ++ mTests) p (both zTests mTests q e))
+        rest-pass e = both-pass startTests (partsTests ++ (zTests ++ mTests)) starts-pass (both-pass partsTests (zTests ++ mTests) p (both-pass zTests mTests q e))
 
 -- ---- what the walks over them find, in the definition's own terms
 

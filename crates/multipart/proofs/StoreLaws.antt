@@ -1,17 +1,17 @@
 -- Laws of storing: one turn of each loop that stores, and a part of a store that has come back.
-use mathlib.Core.Path.{_≡_, sym, _∙_}
+use mathlib.Core.Path.{_≡_, refl, sym, _∙_}
 use mathlib.Core.List.{List, _++_, map}
-use Prim.Native.Nat.{ℕ, suc, _+_, _*_, _-_, _≤_, _<_}
+use Prim.Native.Nat.{ℕ, suc, _+_, _*_, _-_, _^_, _≤_, _<_}
 use native.Mathlib.Nat.{zero-add, sub-zero}
 use native.Mathlib.Numerals.{add-one}
 use native.Mathlib.Omega.{arith}
-use lib.Ieee.{Float}
-use lib.IntN.{ℤ}
+use lib.Ieee.{Float, binary64, ofBits, ofInt}
+use lib.IntN.{ℤ, negsuc}
 use lib.ListN.{length, take, drop, set}
 use lib.Seq.{sets, sets-eq, length-take-le}
 use Rattle.format.specs.Numbers.{leF64, doublesAt}
 use Rattle.format.proofs.NumberLaws.{length-doublesAt}
-use Rattle.multipart.specs.Body.{raised}
+use Rattle.multipart.specs.Body.{noData, raised}
 use Rattle.multipart.specs.Parts.{countOf}
 use Rattle.multipart.proofs.PartLaws.{differencesFrom, differenceAt, one-more, no-more}
 
@@ -25,6 +25,11 @@ module _ (counts : List ℕ) (i left start : ℕ) (n : ℤ) (s : List ℕ) where
   counts-end h = rw (no-more left start n s h)
 
 -- ---- the m values from place i on
+
+-- -10e38 is -10^39
+pub no-data : noData ≡ ofInt binary64 (negsuc (10 ^ 39 - 1))
+unfolding noData ofBits ofInt
+no-data = refl
 
 pub raised-turn : (ms : List Float) (n at i : ℕ) (s : List ℕ) → i < n → sets (set ms i (raised (leF64 (at + 8 * i) s))) (i + 1) (map raised (doublesAt (n - (i + 1)) (at + 8 * (i + 1)) s)) ≡ sets ms i (map raised (doublesAt (n - i) (at + 8 * i) s))
 unfolding doublesAt

@@ -1,15 +1,9 @@
--- Laws of tests in order: one list of tests after another, and the same tests before another answer.
-use mathlib.Core.Path.{_≡_, refl, ap}
+-- Laws of tests in order: an answer goes on into another, and a refusal stays.
+use mathlib.Core.Path.{_≡_, refl}
 use mathlib.Core.Bool.{Bool, true, false, cond}
-use mathlib.Core.List.{List, [], _∷_, _++_, map}
+use mathlib.Core.List.{List, [], _∷_, map}
 use Rattle.format.specs.Order.{first}
 use Rattle.format.specs.Said.{Said, gives, refuses}
-
-pub first-append : {A : Type 0} (ts us : List (Bool × A)) (a : A) → first (ts ++ us) a ≡ first ts (first us a)
-first-append [] us a = refl
-first-append (t ∷ ts) us a = ap (λ r. cond (t .0) r (t .1)) (first-append ts us a)
-
--- ---- an answer goes on into another, and a refusal stays
 
 module _ {A B : Type 0} (f : A → Said B) where
   abbrev pub carry : Said A → Said B

@@ -11,15 +11,15 @@ use lib.ListN.{length}
 use Rattle.format.specs.Numbers.{leI32}
 use Rattle.format.specs.Order.{first, fieldsFrom}
 use Rattle.format.specs.Said.{Said, gives, short, wrongSize}
-use Rattle.format.proofs.OrderLaws.{fields-whole, fields-cut}
+use Rattle.format.specs.Shapes.{sum}
+use Rattle.format.proofs.OrderLaws.{fields-whole, fields-cut, first-append}
 use Rattle.multipart.specs.declared.Body.{Body}
 use Rattle.multipart.specs.declared.judge.Walk.the-variants.{On, Short, Size}
 use Rattle.multipart.specs.Answers.{partOf}
-use Rattle.multipart.specs.Body.{sum, partTests}
+use Rattle.multipart.specs.Body.{partTests}
 use Rattle.multipart.specs.Parts.{isCount, countOf, startsAt}
 use Rattle.multipart.specs.Walks.{Passes, Refuses, endOf, differencesOf, PartsWalk, MeasureWalk}
 use Rattle.multipart.proofs.PartLaws.{is-count, no-count, differencesFrom, differenceAt, one-more, no-more}
-use Rattle.multipart.proofs.TestLaws.{first-append}
 
 -- what is said of the first of `left` parts
 abbrev pub saidAt : ℕ → ℕ → ℤ → List ℕ → Said ℕ

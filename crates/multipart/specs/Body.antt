@@ -9,13 +9,10 @@ use lib.Signed.{nonNeg}
 use Rattle.format.specs.Numbers.{leI32, leF64, doublesAt}
 use Rattle.format.specs.Order.{whole, fieldsFrom, first}
 use Rattle.format.specs.Said.{Said, gives, short, wrongSize, room}
+use Rattle.format.specs.Shapes.{sum}
 use Rattle.multipart.specs.declared.Range.{Range}
 use Rattle.multipart.specs.declared.Body.{Body}
 use Rattle.multipart.specs.Parts.{isCount, countOf, differences, startsAt}
-
-abbrev pub sum : List ℕ → ℕ
-sum [] = 0
-sum (n ∷ ns) = n + sum ns
 
 -- ---- what stands where: the box at 0, p at 32, n at 36, the starts at 40, then the pairs, z and m
 

@@ -10,11 +10,12 @@ use lib.Seq.{sets}
 use Rattle.format.specs.Numbers.{leI32}
 use Rattle.format.specs.Order.{first}
 use Rattle.format.specs.Said.{Said, short, wrongSize}
+use Rattle.format.specs.Shapes.{sum}
 use Rattle.multipart.specs.declared.Body.{Body}
 use Rattle.multipart.specs.declared.judge.Walk.{Walk}
 use Rattle.multipart.specs.declared.judge.Walk.the-variants.{On, Short, Size}
 use Rattle.multipart.specs.Parts.{countOf, differences, startsAt}
-use Rattle.multipart.specs.Body.{sum, partsIn, countsIn, pointsIn, mAt, xyIn, zIn, mIn, bodyIn, countTests, partTests, measureTests, restTests, hasRoom}
+use Rattle.multipart.specs.Body.{partsIn, countsIn, pointsIn, mAt, xyIn, zIn, mIn, bodyIn, countTests, partTests, measureTests, restTests, hasRoom}
 
 -- ---- tests, whatever follows them
 

@@ -8,12 +8,11 @@ use lib.Dec.{leb, ltb, eqb, lit<}
 use lib.ListN.{length}
 use borrow.Author.Tests.{lt-ltb, le-ltb, le-leb, lt-leb, eq-eqb, ne-eqb, ltb-true, leb-true}
 use Rattle.format.specs.declared.kinds.Kind.{Kind}
-use Rattle.format.specs.Lengths.{Form, nothing, onePoint, parts, lengthsFor, fixedWords, pointWords, contentWords}
-use Rattle.format.proofs.OrderLaws.{rest, okAt, noAt, on, stop}
+use Rattle.format.specs.Lengths.{Form, nothing, onePoint, parts, lengthsFor, fixedWords, pointWords, contentWords, formulaWords}
+use Rattle.format.proofs.OrderLaws.{rest, okAt, noAt, on, stop, both-true}
 use Rattle.rules.specs.Rules.{Taken, bigAt, littleAt, held, wordsOf, P9, P10, P11, P13, headRules}
 use Rattle.pair.specs.Plans.{hasParts, pointsAlone}
-use Rattle.pair.specs.Verdicts.{headFault, formulaWords}
-use Rattle.pair.proofs.Turns.{both}
+use Rattle.pair.specs.Verdicts.{headFault}
 
 -- ---- P9
 
@@ -28,7 +27,7 @@ module _ (l : List ℕ) (k : ℕ) where
   last9 h e = rw (le-leb 8 (length l) h, eq-eqb (bigAt 0 l) k e)
 
   pub told9 : P9 l k ≡ true → 8 ≤ length l
-  told9 e = leb-true 8 (length l) (both _ _ (both _ (held k) e .0) .0)
+  told9 e = leb-true 8 (length l) (both-true _ _ (both-true _ (held k) e .0) .0)
 
 -- ---- P10
 
@@ -49,8 +48,8 @@ module _ (l : List ℕ) where
 
   pub told10 : P10 l ≡ true → Inside l
   told10 e =
-      let a = both _ (leb (8 + 2 * wordsOf l) (length l)) e in
-      let b = both _ (leb 2 (wordsOf l)) (a .0) in
+      let a = both-true _ (leb (8 + 2 * wordsOf l) (length l)) e in
+      let b = both-true _ (leb 2 (wordsOf l)) (a .0) in
       record { held = ltb-true _ _ (b .0); some = leb-true _ _ (b .1); within = leb-true _ _ (a .1) }
 
 -- ---- P11
@@ -71,7 +70,7 @@ module _ (l x : List ℕ) (at : ℕ) where
       last11 e = rw (le-leb 8 (length x) h, lt-ltb (bigAt 0 x) (2 ^ 31) p, eq-eqb (2 * bigAt 0 x) at e)
 
   pub told11 : P11 l x at ≡ true → 8 ≤ length x
-  told11 e = leb-true 8 (length x) (both _ _ (both _ _ (both _ (eqb (bigAt 4 x) (wordsOf l)) e .0) .0) .0)
+  told11 e = leb-true 8 (length x) (both-true _ _ (both-true _ _ (both-true _ (eqb (bigAt 4 x) (wordsOf l)) e .0) .0) .0)
 
 -- ---- P13, with and without parts
 

@@ -1,5 +1,4 @@
 -- Laws of the rules, as the code meets them.
-pub mod FiniteLaws
 pub mod FormulaLaws
 pub mod HeadLaws
 pub mod PlaceLaws

@@ -11,12 +11,12 @@ use borrow.Author.Tests.{eqb-true}
 use Rattle.format.specs.declared.kinds.Kind.{Kind}
 use Rattle.format.specs.Lengths.{Form, nothing, onePoint, parts, fixedWords, pointWords, contentWords}
 use Rattle.format.specs.WellFormed.{hasRings, leastPoints}
+use Rattle.format.proofs.OrderLaws.{both-true}
 use Rattle.rules.specs.Rules.{Taken, littleAt, held, wordsOf, partsOf, pointsOf, finites, partsLong, ringsClosed, P13, P14, P15, P16}
 use Rattle.pair.specs.Plans.{hasParts, pointsAlone}
 use Rattle.pair.specs.Verdicts.{headFault}
 use Rattle.pair.proofs.HeadLaws.{Inside, fits, least-words, as-parts, form-is, told10, told11}
 use Rattle.pair.proofs.RecordLaws.{head-met}
-use Rattle.pair.proofs.Turns.{both}
 
 either : (a b : Bool) → (a || b) ≡ true → (a ≡ true) ⊎ (b ≡ true)
 either true b e = inl refl
@@ -41,7 +41,7 @@ fits-least k p n w e =
 module _ (t : Taken) (l : List ℕ) (met : P13 t l ≡ true) where
   parts-room : hasParts (t .form) ≡ true → 22 + 2 * littleAt 44 l + 8 * littleAt 48 l ≤ wordsOf l
   parts-room h =
-      let f = both (held (littleAt 44 l) && held (littleAt 48 l)) (fits t (littleAt 44 l) (littleAt 48 l) (wordsOf l)) (sym (as-parts t l h) ∙ met) .1 in
+      let f = both-true (held (littleAt 44 l) && held (littleAt 48 l)) (fits t (littleAt 44 l) (littleAt 48 l) (wordsOf l)) (sym (as-parts t l h) ∙ met) .1 in
       let g : fits (record { kind = t .kind; form = parts }) (littleAt 44 l) (littleAt 48 l) (wordsOf l) ≡ true = rw (form-is t l h) at f in
       fits-least (t .kind) (littleAt 44 l) (littleAt 48 l) (wordsOf l) g
 

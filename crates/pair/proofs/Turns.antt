@@ -1,27 +1,19 @@
 -- One turn of each loop of the crate, in the loop's own terms: what is left to do before the turn is the turn and what is left after it.
 use mathlib.Core.Path.{_≡_, refl}
-use mathlib.Core.Bool.{Bool, true, false, _&&_}
+use mathlib.Core.Bool.{true, false}
 use mathlib.Core.List.{List, _∷_}
 use Prim.Native.Nat.{ℕ, zero, suc, _+_, _-_, _≤_, _<_}
 use native.Mathlib.Nat.{le-refl}
 use native.Mathlib.Numerals.{add-one}
 use native.Mathlib.Omega.{arith}
-use lib.Dec.{T, leb}
+use lib.Dec.{leb}
 use lib.ListN.{length, getD, replicate}
 use lib.Seq.{drop-cons}
 use borrow.Author.Tests.{eq-eqb, ne-eqb, le-leb, lt-leb, leb-true}
 use Rattle.format.specs.Bytes.{field}
 use Rattle.format.specs.Numbers.{finite}
+use Rattle.format.proofs.OrderLaws.{both-true}
 use Rattle.rules.specs.Rules.{littleAt, doubleAt, sameBytes, finites, endOf, partsLong, ringClosed, ringsClosed}
-
--- both tests of an `and`
-pub both : (a b : Bool) → (a && b) ≡ true → (a ≡ true) × (b ≡ true)
-both true b e = (refl, e)
-both false b e = absurd (let z : _≡_ {A = ℕ} 0 1 = cc in omega arith)
-
-pub both-hold : (a b : Bool) → T (a && b) → T a × T b
-both-hold true b t = (tt, t)
-both-hold false b t = absurd t
 
 -- ---- bytes
 
@@ -122,9 +114,9 @@ pub record Part (s : List ℕ) (n least at cur r e : ℕ) : Type 0 where
 
 below : (s : List ℕ) (n least r at cur : ℕ) → partsLong least (suc r) at cur n s ≡ true → cur ≤ n
 unfolding partsLong
-below s n least zero at cur h = omega (arith, leb-true (cur + least) n (both (leb (cur + least) n) _ h .0))
+below s n least zero at cur h = omega (arith, leb-true (cur + least) n (both-true (leb (cur + least) n) _ h .0))
 below s n least (suc r) at cur h =
-    let q = both (leb (cur + least) (littleAt at s)) _ h in
+    let q = both-true (leb (cur + least) (littleAt at s)) _ h in
     omega (arith, leb-true (cur + least) (littleAt at s) (q .0), below s n least r (at + 4) (littleAt at s) (q .1))
 
 pub part : (s : List ℕ) (n least at cur r e : ℕ) → 0 < r → e ≡ endOf (r - 1) at s n → partsLong least r at cur n s ≡ true → Part s n least at cur r e
@@ -133,7 +125,7 @@ part s n least at cur zero e h q p = absurd (omega arith)
 part s n least at cur (suc r) e h q p =
     let d : suc r - 1 ≡ r = omega arith in
     let q′ : e ≡ endOf r at s n = rw d at q in
-    let t = both (leb (cur + least) (endOf r at s n)) _ p in
+    let t = both-true (leb (cur + least) (endOf r at s n)) _ p in
     record { long = rw q′ (leb-true _ _ (t .0)); within = rw q′ (in-points r (t .1)); others = rw (d, q′) (t .1) }
   where
     in-points : (r : ℕ) → partsLong least r (at + 4) (endOf r at s n) n s ≡ true → endOf r at s n ≤ n

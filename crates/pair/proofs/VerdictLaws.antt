@@ -8,9 +8,10 @@ use lib.ListN.{length, take, drop}
 use borrow.Author.Tests.{leb-true}
 use Rattle.format.specs.Order.{first}
 use Rattle.format.specs.Said.{fault}
+use Rattle.format.proofs.OrderLaws.{no-fault-then, fault-first, no-fault}
 use Rattle.rules.specs.Rules.{Taken, takenIn, headersRules, headersFault, walkFrom, none-yet, verdict}
 use Rattle.pair.specs.Verdicts.{frontFault, backFault}
-use Rattle.pair.proofs.RecordLaws.{on-fault, passed, failed, each}
+use Rattle.pair.proofs.RecordLaws.{on-fault}
 
 module _ (shp shx : List ℕ) where
   faulty : (r : ℕ) → headersFault shp shx ≡ r → (r ≡ 0 → ⊥) → fault r 0 ≡ verdict shp shx
@@ -19,17 +20,17 @@ module _ (shp shx : List ℕ) where
 
   pub by-front : (r : ℕ) → r ≡ frontFault shp shx → (r ≡ 0 → ⊥) → fault r 0 ≡ verdict shp shx
   unfolding headersFault frontFault
-  by-front r e n = faulty r (failed (take 3 (headersRules shp shx)) (drop 3 (headersRules shp shx)) r (sym e) n) n
+  by-front r e n = faulty r (fault-first (take 3 (headersRules shp shx)) (drop 3 (headersRules shp shx)) r (sym e) n) n
 
   module _ (front : 0 ≡ frontFault shp shx) where
     further : headersFault shp shx ≡ first (drop 3 (headersRules shp shx)) 0
     unfolding headersFault frontFault
-    further = passed (take 3 (headersRules shp shx)) (drop 3 (headersRules shp shx)) tt (sym front)
+    further = no-fault-then (take 3 (headersRules shp shx)) tt (sym front) (drop 3 (headersRules shp shx))
 
     pub both-long : (100 ≤ length shp) × (100 ≤ length shx)
     unfolding frontFault
     both-long =
-        let met = each (take 3 (headersRules shp shx)) tt (sym front) in
+        let met = no-fault (take 3 (headersRules shp shx)) tt (sym front) in
         (leb-true 100 (length shp) (met 0), leb-true 100 (length shx) (met 1))
 
     pub by-kind : takenIn shp ≡ none → fault 4 0 ≡ verdict shp shx

@@ -1,14 +1,13 @@
 -- The checker's answer in document 01's terms, and the faults that its helpers look for.
 use mathlib.Core.Path.{_≡_}
 use mathlib.Core.List.{List}
-use Prim.Native.Nat.{ℕ, _+_, _*_}
+use Prim.Native.Nat.{ℕ}
 use lib.ListN.{take, drop}
-use Rattle.format.specs.declared.lengths.Formula.{Formula}
 use Rattle.format.specs.Order.{first}
 use Rattle.format.specs.Said.{Said, gives, fault}
-use Rattle.meaning.specs.Consequences.{Says}
 use Rattle.rules.specs.Meaning.{Judged}
 use Rattle.rules.specs.Rules.{Taken, Counts, headersRules, headRules, verdict}
+use Rattle.meaning.specs.Consequences.{Says}
 use Rattle.pair.specs.declared.Verdict.{Verdict}
 use Rattle.pair.specs.declared.Verdict.the-variants.{Yes, No}
 
@@ -33,7 +32,3 @@ backFault shp shx = first (drop 4 (headersRules shp shx)) 0
 -- the first of P9 to P13 that a record breaks
 unfoldable pub headFault : Taken → List ℕ → List ℕ → ℕ → ℕ → ℕ
 headFault t l x at k = first (headRules t l x at k) 0
-
--- the words that a formula gives for p parts and n points
-abbrev pub formulaWords : Formula → ℕ → ℕ → ℕ
-formulaWords f p n = f .fixed + 2 * p + f .point * n

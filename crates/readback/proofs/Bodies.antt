@@ -12,23 +12,19 @@ use Rattle.format.specs.Numbers.{leF64, doublesAt}
 use Rattle.format.specs.Order.{first, fieldsFrom}
 use Rattle.format.specs.Said.{Said, gives, short}
 use Rattle.format.specs.Shapes.{Parts, parted, there, PartsOf}
-use Rattle.format.proofs.OrderLaws.{fields-whole}
-use Rattle.multipart.specs.Answers.{Two, countsOf}
+use Rattle.format.proofs.OrderLaws.{fields-whole, first-append}
+use Rattle.format.proofs.Laid.{boxDoubles}
 use Rattle.multipart.specs.declared.Body.{Body}
+use Rattle.multipart.specs.Answers.{Two, countsOf}
 use Rattle.multipart.specs.Body.{partsIn, pointsIn, zAt, mAt, roomTests, bodyIn, bodyOf, countTests, partTests, differencesIn, pairsAt, measureTests, restTests}
 use Rattle.multipart.specs.Walks.{Passes}
-use Rattle.multipart.proofs.TestLaws.{first-append}
-use Rattle.meaning.proofs.Laid.{boxDoubles}
+use Rattle.multipart.proofs.RestLaws.{both-pass}
 use Rattle.readback.specs.Held.{PartsHeld}
 use Rattle.readback.specs.ReadBack.{Small, value, bodyOfParts, Roomy}
 use Rattle.readback.proofs.Counts.{parts-pass}
-use Rattle.readback.proofs.Held.{held-fit}
 use Rattle.readback.proofs.InParts.{bytes, parts, points, pairsPlace, zPlace, mPlace, size, points-held, at-box, at-z, at-m, parts-is, number-is, differences-are, points-are, pairs-place, z-place, m-place}
 use Rattle.readback.proofs.Measures.{range-back}
 use Rattle.readback.proofs.Numbers.{doubles-back}
-
-both : (ts us : List (Bool × Said Body)) → Passes ts → Passes us → Passes (ts ++ us)
-both ts us p q a = first-append ts us a ∙ (p (first us a) ∙ q a)
 
 -- its counts
 abbrev pub two : Parts → Two
@@ -71,14 +67,14 @@ module _ (k : Kind) (s : Parts) (o : PartsOf k s) (v : PartsHeld s) (small : Sma
       let partsTests : List (Bool × Said Body) = partTests 40 (pairsAt b) (differencesIn b) b in
       let z : Passes zTests = rw (z-place k s o v small, n) (measure-pass (there (s .z)) (points s) (zPlace s) b (omega arith)) in
       let m : Passes mTests = rw (m-place k s o v small, n) (measure-pass (there (s .m)) (points s) (mPlace s) b (omega arith)) in
-      both (fieldsFrom 4 (partsIn b) 40 b short) (partsTests ++ (zTests ++ mTests))
+      both-pass (fieldsFrom 4 (partsIn b) 40 b short) (partsTests ++ (zTests ++ mTests))
       (λ a. rw (parts-is k s o v small) (fields-whole 4 (lit< tt) (parts s) 40 b short a (omega arith)))
-      (both partsTests (zTests ++ mTests) parts-tests (both zTests mTests z m))
+      (both-pass partsTests (zTests ++ mTests) parts-tests (both-pass zTests mTests z m))
 
   -- ---- the body
 
   box-are : doublesAt 4 0 (bytes s) ≡ map value (boxDoubles (s .box))
-  box-are = doubles-back 0 4 (boxDoubles (s .box)) (bytes s) refl (held-fit (boxDoubles (s .box)) (v .box)) (at-box k s o v small)
+  box-are = doubles-back 0 4 (boxDoubles (s .box)) (bytes s) refl (v .box) (at-box k s o v small)
 
   body-is : bodyIn (there (s .z)) (there (s .m)) (bytes s) ≡ bodyOfParts s
   unfolding bodyIn doublesAt
@@ -120,4 +116,4 @@ module _ (k : Kind) (s : Parts) (o : PartsOf k s) (v : PartsHeld s) (small : Sma
         let b : List ℕ = bytes s in
         let rests : List (Bool × Said Body) = restTests (there (s .z)) (there (s .m)) b in
         let rooms : List (Bool × Said Body) = roomTests (there (s .z)) (there (s .m)) b counts xy zs ms in
-        both (countTests b) (rests ++ rooms) counts-pass (both rests rooms rest-pass room-pass) (gives (bodyIn (there (s .z)) (there (s .m)) b)) ∙ ap gives body-is
+        both-pass (countTests b) (rests ++ rooms) counts-pass (both-pass rests rooms rest-pass room-pass) (gives (bodyIn (there (s .z)) (there (s .m)) b)) ∙ ap gives body-is

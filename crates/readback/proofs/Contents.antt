@@ -9,20 +9,19 @@ use lib.Seq.{drop-at}
 use borrow.Author.Tests.{le-leb, lt-ltb}
 use Rattle.format.specs.declared.kinds.Kind.{Kind}
 use Rattle.format.specs.Encoding.{content, shapeBytes, shapeWords}
-use Rattle.format.specs.Kinds.{kinds, rowOf, kindOf, known}
+use Rattle.format.specs.Kinds.{kindOf, known, kindAt}
 use Rattle.format.specs.Lengths.{formOf}
 use Rattle.format.specs.Numbers.{little}
 use Rattle.format.specs.Order.{first}
 use Rattle.format.specs.Said.{Said}
 use Rattle.format.specs.Shapes.{Shape, OfKind}
 use Rattle.format.proofs.NumberLaws.{length-little}
-use Rattle.record.specs.declared.Wanted.the-variants as Wants
-use Rattle.record.specs.Reading.{Shaped, codeIn, kindAt, frontTests, byForm, recordOf}
+use Rattle.format.proofs.Laid.{length-shape, length-content}
+use Rattle.format.proofs.Places.{in-front}
 use Rattle.rules.specs.Meaning.{TakenKind}
-use Rattle.meaning.proofs.Laid.{length-shape}
-use Rattle.meaning.proofs.Places.{in-front}
-use Rattle.meaning.proofs.Record.{length-content}
 use Rattle.meaning.proofs.Table
+use Rattle.record.specs.declared.Wanted.the-variants as Wants
+use Rattle.record.specs.Reading.{Shaped, codeIn, frontTests, byForm, recordOf}
 use Rattle.readback.specs.ReadBack.{Small, size}
 use Rattle.readback.proofs.Numbers.{i32-back, difference}
 
@@ -35,7 +34,7 @@ module _ (k : Kind) (s : Shape) (t : TakenKind k) where
   pub code-back : codeIn (content k s) ≡ pos (k .code)
   unfolding content little
   code-back =
-      let h = Table.known (rowOf (k .code) kinds) (record { kind = k; form = t .form }) (t .in-table) (t .taken) in
+      let h = Table.known (k .code) (record { kind = k; form = t .form }) (t .in-table) (t .taken) in
       i32-back (k .code) 0 (content k s) (h .small) (in-front (little (k .code)) (shapeBytes s))
 
   pub kind-back : kindAt (codeIn (content k s)) ≡ some k

@@ -13,13 +13,12 @@ use borrow.Author.Tests.{lt-ltb}
 use Rattle.format.specs.Encoding.{startsFrom}
 use Rattle.format.specs.Order.{first, fieldsFrom}
 use Rattle.format.specs.Said.{Said, short}
-use Rattle.format.specs.Shapes.{Point}
-use Rattle.format.proofs.OrderLaws.{fields-whole}
+use Rattle.format.specs.Shapes.{Point, sum}
+use Rattle.format.proofs.OrderLaws.{fields-whole, first-append}
 use Rattle.multipart.specs.declared.Body.{Body}
-use Rattle.multipart.specs.Body.{sum, partTests}
+use Rattle.multipart.specs.Body.{partTests}
 use Rattle.multipart.specs.Parts.{isCount, countOf, differences}
 use Rattle.multipart.specs.Walks.{Passes}
-use Rattle.multipart.proofs.TestLaws.{first-append}
 use Rattle.readback.proofs.Numbers.{held, difference}
 
 abbrev pub lengths : List (List Point) → List ℤ

@@ -16,18 +16,17 @@ use Rattle.format.specs.Numbers.{leI32}
 use Rattle.format.specs.Shapes.{Parts, parted, there, PartsOf}
 use Rattle.format.specs.WellFormed.{coordinates}
 use Rattle.format.proofs.ByteLaws.{length-leBytes}
+use Rattle.format.proofs.Cuts.{length-startsFrom, fit-starts}
+use Rattle.format.proofs.Doubles.{measured, count, writeIf}
+use Rattle.format.proofs.Laid.{parts-words, boxDoubles, partsDoubles, parts-laid, length-shape}
+use Rattle.format.proofs.Pairs.{length-coordinates}
+use Rattle.format.proofs.Places.{Stands, all-behind, front, back}
+use Rattle.format.proofs.Runs.{run, run-append, length-run, numbers-back}
 use Rattle.multipart.specs.Body.{differencesIn, countsIn, pointsIn, pairsAt, zAt, mAt, raised, xyIn, zIn, mIn}
 use Rattle.multipart.specs.Parts.{countOf, startsAt}
-use Rattle.meaning.proofs.Cuts.{length-startsFrom, fit-starts}
-use Rattle.meaning.proofs.Doubles.{measured, count, writeIf}
-use Rattle.meaning.proofs.Laid.{parts-words, boxDoubles, partsDoubles, parts-laid, length-shape}
-use Rattle.meaning.proofs.Pairs.{length-coordinates}
-use Rattle.meaning.proofs.Places.{Stands, all-behind, front, back}
-use Rattle.meaning.proofs.Runs.{run, run-append, length-run, numbers-back}
 use Rattle.readback.specs.Held.{PartsHeld}
 use Rattle.readback.specs.ReadBack.{Small, countsOfParts, xyOfParts, valuesOf}
 use Rattle.readback.proofs.Counts.{lengths, starts-held, differences-back, counts-back, sum-back}
-use Rattle.readback.proofs.Held.{held-fit}
 use Rattle.readback.proofs.Measures.{laid, length-laid, values-back, map-cond}
 use Rattle.readback.proofs.Numbers.{i32-back, starts-are, doubles-back}
 
@@ -172,7 +171,7 @@ module _ (k : Kind) (s : Parts) (o : PartsOf k s) (v : PartsHeld s) (small : Sma
   xy-are =
       rw (points-are, pairs-place)
       (doubles-back (pairsPlace s) (2 * points s) (coordinates (flatten (s .parts))) (bytes s) (length-coordinates (flatten (s .parts)))
-      (held-fit (coordinates (flatten (s .parts))) (v .points))
+      (v .points)
       (front (pairsPlace s) (16 * points s) (run 8 (coordinates (flatten (s .parts)))) (run 8 measures) (bytes s) length-pairs at-doubles))
 
   pub z-are : zIn (there (s .z)) (bytes s) ≡ valuesOf (s .z)

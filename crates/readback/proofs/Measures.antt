@@ -11,13 +11,12 @@ use Rattle.format.specs.Bytes.{leBytes}
 use Rattle.format.specs.Numbers.{doublesAt}
 use Rattle.format.specs.Shapes.{Measure, there, Covers}
 use Rattle.format.proofs.ByteLaws.{length-leBytes}
+use Rattle.format.proofs.Doubles.{measured, writeIf}
+use Rattle.format.proofs.Places.{Stands, front, back}
+use Rattle.format.proofs.Runs.{run, run-append, length-run}
 use Rattle.multipart.specs.Body.{rangeAt, noRange}
-use Rattle.meaning.proofs.Doubles.{measured, writeIf}
-use Rattle.meaning.proofs.Places.{Stands, front, back}
-use Rattle.meaning.proofs.Runs.{run, run-append, length-run}
 use Rattle.readback.specs.Held.{measureHeld}
 use Rattle.readback.specs.ReadBack.{rangeOf, valuesOf}
-use Rattle.readback.proofs.Held.{held-fit}
 use Rattle.readback.proofs.Numbers.{double-back, doubles-back}
 
 -- its bytes
@@ -43,7 +42,7 @@ module _ (n at : ℕ) (s : List ℕ) where
   pub values-back : (o : Option Measure) → Covers n o → measureHeld o → Stands at (laid n o) s → cond (there o) (doublesAt n (at + 16) s) [] ≡ valuesOf o
   values-back none c f p = refl
   values-back (some r) c f p =
-      doubles-back (at + 16) n (r .values) s c (held-fit (r .values) (f .1 .1))
+      doubles-back (at + 16) n (r .values) s c (f .1 .1)
       (back at 16 (run 8 (r .low ∷ r .high ∷ [])) (run 8 (r .values)) s (length-run 8 (r .low ∷ r .high ∷ []))
       (rw (run-append 8 (r .low ∷ r .high ∷ []) (r .values)) at p))
 

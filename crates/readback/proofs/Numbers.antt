@@ -10,11 +10,11 @@ use lib.ListN.{length}
 use mir.Syntax.{w32}
 use mir.Val.{toZ}
 use mir.ValLaws.{toZ-ofZ}
-use Rattle.format.specs.Bytes.{leBytes}
+use Rattle.format.specs.Bytes.{leBytes, Fit}
 use Rattle.format.specs.Numbers.{leI32, leF64, doublesAt}
+use Rattle.format.proofs.Places.{Stands, le-back}
+use Rattle.format.proofs.Runs.{numbers, numbers-back, run}
 use Rattle.multipart.specs.Parts.{startsAt}
-use Rattle.meaning.proofs.Places.{Stands, le-back}
-use Rattle.meaning.proofs.Runs.{numbers, numbers-back, run, Fit}
 use Rattle.readback.specs.ReadBack.{value}
 
 pub held : (n : ℕ) → n < 2 ^ 31 → toZ w32 n ≡ pos n

@@ -19,14 +19,13 @@ use Rattle.format.specs.Said.{gives, short}
 use Rattle.format.specs.Shapes.{Point, point, there, PointOf}
 use Rattle.format.proofs.ByteLaws.{length-leBytes}
 use Rattle.format.proofs.OrderLaws.{fields-whole}
-use Rattle.record.specs.Reading.{pointOf, pointIn, pointShape, doublesOf}
+use Rattle.format.proofs.Doubles.{writeIf}
+use Rattle.format.proofs.Doubles
+use Rattle.format.proofs.Laid.{point-words, point-laid, length-content}
+use Rattle.format.proofs.Places.{Stands, all-behind, front, back}
+use Rattle.format.proofs.Runs.{run, run-append, length-run}
 use Rattle.rules.specs.Meaning.{TakenKind}
-use Rattle.meaning.proofs.Doubles.{writeIf}
-use Rattle.meaning.proofs.Doubles
-use Rattle.meaning.proofs.Laid.{point-words, point-laid}
-use Rattle.meaning.proofs.Places.{Stands, all-behind, front, back}
-use Rattle.meaning.proofs.Record.{length-content}
-use Rattle.meaning.proofs.Runs.{run, run-append, length-run}
+use Rattle.record.specs.Reading.{pointOf, pointIn, pointShape, doublesOf}
 use Rattle.readback.specs.Held.{PointHeld, valueHeld}
 use Rattle.readback.specs.ReadBack.{value, valueOr, shapedAs, size}
 use Rattle.readback.proofs.Contents.{behind, code-back}

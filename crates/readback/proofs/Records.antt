@@ -9,11 +9,11 @@ use Rattle.format.specs.Encoding.{content, shapeWords}
 use Rattle.format.specs.Shapes.{Shape, null, OfKind}
 use Rattle.format.specs.WellFormed.{WellFormed}
 use Rattle.format.proofs.ByteLaws.{length-field}
+use Rattle.format.proofs.Laid.{length-content}
 use Rattle.rules.specs.Meaning.{AllWellFormed}
 use Rattle.meaning.specs.Consequences.{offsetOf, extentOf}
 use Rattle.meaning.proofs.EachRecord.{kind-at}
 use Rattle.meaning.proofs.Entries.{entry-names, record-holds}
-use Rattle.meaning.proofs.Record.{length-content}
 use Rattle.readback.specs.ReadBack.{ReadsRecords, contentAt}
 use Rattle.readback.proofs.Held.{well-held}
 use Rattle.readback.proofs.ReadsBack.{reads-back}

@@ -7,7 +7,7 @@ use lib.Dec.{eqb}
 use borrow.Author.Tests.{eq-eqb, ne-eqb}
 use Rattle.format.specs.Lengths.{contentWords}
 use Rattle.format.specs.Lengths
-use Rattle.meaning.proofs.Laid.{parts-words}
+use Rattle.format.proofs.Laid.{parts-words}
 
 -- a content's bytes with m or without
 abbrev bytesOf : Bool → ℕ → ℕ → Bool → ℕ

@@ -1,13 +1,10 @@
 -- A shape whose doubles have 64 bits each, infinities and NaN among them. A well-formed shape is one: `well-held` in proofs/Held.antt.
-use mathlib.Core.List.{List, [], _∷_, flatten}
+use mathlib.Core.List.{[], _∷_, flatten}
 use mathlib.Core.Option.{Option, none, some}
 use Prim.Native.Nat.{ℕ, _^_, _<_}
+use Rattle.format.specs.Bytes.{Fit}
 use Rattle.format.specs.Shapes.{Point, Measure, Parts, Shape, null, point, parted}
 use Rattle.format.specs.WellFormed.{coordinates}
-
-abbrev pub AllHeld : List ℕ → Type 0
-AllHeld [] = Unit {0}
-AllHeld (d ∷ ds) = (d < 2 ^ 64) × AllHeld ds
 
 abbrev pub valueHeld : Option ℕ → Type 0
 valueHeld none = Unit {0}
@@ -15,11 +12,11 @@ valueHeld (some d) = d < 2 ^ 64
 
 abbrev pub measureHeld : Option Measure → Type 0
 measureHeld none = Unit {0}
-measureHeld (some r) = AllHeld (r .low ∷ r .high ∷ r .values)
+measureHeld (some r) = Fit 8 (r .low ∷ r .high ∷ r .values)
 
 pub record PartsHeld (s : Parts) : Type 0 where
-  pub box : AllHeld (s .box .xmin ∷ s .box .ymin ∷ s .box .xmax ∷ s .box .ymax ∷ [])
-  pub points : AllHeld (coordinates (flatten (s .parts)))
+  pub box : Fit 8 (s .box .xmin ∷ s .box .ymin ∷ s .box .xmax ∷ s .box .ymax ∷ [])
+  pub points : Fit 8 (coordinates (flatten (s .parts)))
   pub z : measureHeld (s .z)
   pub m : measureHeld (s .m)
 

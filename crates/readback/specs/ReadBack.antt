@@ -11,16 +11,17 @@ use Rattle.format.specs.declared.kinds.Kind.{Kind}
 use Rattle.format.specs.declared.units.Bytes.{Bytes}
 use Rattle.format.specs.Bytes.{field}
 use Rattle.format.specs.Encoding.{Box, content, shapeWords}
+use Rattle.format.specs.Kinds.{kindAt}
 use Rattle.format.specs.Said.{gives}
 use Rattle.format.specs.Shapes.{Measure, Parts, Shape, null, point, parted, there, OfKind}
 use Rattle.format.specs.WellFormed.{coordinates}
 use Rattle.multipart.specs.declared.Body.{Body}
 use Rattle.multipart.specs.declared.Range.{Range}
 use Rattle.multipart.specs.Body.{noRange, raised, countsIn, xyIn, zIn, mIn}
+use Rattle.rules.specs.Meaning.{TakenKind, FileOf}
 use Rattle.meaning.specs.Consequences.{offsetOf, extentOf}
 use Rattle.record.specs.declared.Wanted.the-variants as Wants
-use Rattle.record.specs.Reading.{Shaped, nullShape, pointShape, partsShape, codeIn, kindAt, recordOf}
-use Rattle.rules.specs.Meaning.{TakenKind, FileOf}
+use Rattle.record.specs.Reading.{Shaped, nullShape, pointShape, partsShape, codeIn, recordOf}
 use Rattle.readback.specs.Held.{Held}
 
 -- the double with these bits

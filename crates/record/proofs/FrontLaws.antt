@@ -2,12 +2,12 @@
 use mathlib.Core.Path.{_≡_, refl, sym, ap, _∙_}
 use mathlib.Core.Bool.{Bool, true, false}
 use mathlib.Core.List.{List, [], _∷_}
-use mathlib.Core.Option.{Option, none, some, Option·map, bind}
+use mathlib.Core.Option.{Option, none, some, Option·map}
 use Prim.Native.Nat.{ℕ, _≤_, _<_}
 use native.Mathlib.Omega.{arith}
 use lib.Dec.{T, lit<}
 use lib.IntN.{ℤ, pos, negsuc, natAbs, _-ℤ_}
-use lib.ListN.{length, getElem?}
+use lib.ListN.{length}
 use lib.Signed.{nonNeg}
 use mir.Syntax.{w32}
 use mir.Val.{Fits, SFits, toZ, ofZ}
@@ -20,20 +20,22 @@ use Rattle.format.specs.declared.lengths.Content.{Content}
 use Rattle.format.specs.declared.lengths.Content.the-variants as ContentIs
 use Rattle.format.specs.declared.lengths.Lengths.{Lengths}
 use Rattle.format.specs.declared.units.Bytes.{Bytes}
-use Rattle.format.specs.Kinds.{kinds, rowOf, found, kindOf, isKind, known}
+use Rattle.format.specs.Kinds.{kindOf, isKind, known, kindAt}
 use Rattle.format.specs.Lengths.{Form, formOf, lengthsFor, lengthsOf, taken, contentOf}
 use Rattle.format.specs.Order.{first}
 use Rattle.format.specs.Said.{Said, notTaken}
+use Rattle.format.specs.Shapes.{there}
 use Rattle.format.specs.Units.{sameInt, inI32}
-use Rattle.format.proofs.UnitLaws.{same-yes, same-no}
-use Rattle.multipart.proofs.TestLaws.{first-append}
+use Rattle.format.proofs.KindLaws.{found-some, code-is}
+use Rattle.format.proofs.LengthLaws.{content-is}
+use Rattle.format.proofs.OrderLaws.{first-append}
 use Rattle.record.specs.declared.Wanted.{Wanted}
 use Rattle.record.specs.declared.Wanted.the-variants as Wants
 use Rattle.record.specs.declared.RecordAnswer.{RecordAnswer}
 use Rattle.record.specs.declared.RecordAnswer.the-variants as Is
 use Rattle.record.specs.declared.front.Front.{Front}
 use Rattle.record.specs.declared.front.Front.the-variants as FrontIs
-use Rattle.record.specs.Reading.{Shaped, codeIn, kindAt, isSome, isTaken, wantedTests, mismatchTests, frontTests}
+use Rattle.record.specs.Reading.{Shaped, codeIn, isTaken, wantedTests, mismatchTests, frontTests}
 use Rattle.record.specs.Steps.{Passes, Refuses, foundTests, Held, Fronts}
 
 -- ---- the lookups
@@ -44,12 +46,7 @@ known-is z r r′ e f = ap isKind (sym e ∙ f)
 
 pub kind-at : (z : ℤ) (r : Found) (k : Kind) → r ≡ kindOf z → r ≡ FoundIs.Is k → kindAt z ≡ some k
 unfolding kindOf
-kind-at (pos n) r k e f = by (getElem? kinds (rowOf n kinds)) (sym e ∙ f)
-  where
-    by : (o : Option Kind) → found o ≡ FoundIs.Is k → o ≡ some k
-    by none e = cc
-    by (some x) e = cc
-kind-at (negsuc n) r k e f = cc
+kind-at z r k e f = found-some (kindAt z) k (sym e ∙ f)
 
 -- a known code is not negative
 pub known-casts : (z : ℤ) (k : Kind) → kindAt z ≡ some k → SFits w32 z → T (nonNeg (toZ w32 (ofZ w32 z))) × Fits w32 (natAbs (toZ w32 (ofZ w32 z)))
@@ -60,32 +57,27 @@ known-casts z k e f = rw (toZ-ofZ w32 z f) (by z e f)
     by (negsuc n) e f = let q : _≡_ {A = ℕ} 0 1 = cc in absurd (omega arith)
 
 module _ (z : ℤ) (k : Kind) (e : kindAt z ≡ some k) where
-  content-is : contentOf (natAbs z) ≡ taken (lengthsOf k)
-  unfolding contentOf bind
-  content-is = by z e
-    where
-      by : (z : ℤ) → kindAt z ≡ some k → contentOf (natAbs z) ≡ taken (lengthsOf k)
-      by (pos n) e = ap (λ (o : Option Kind). taken (bind o lengthsOf)) e
-      by (negsuc n) e = cc
+  content-here : contentOf (natAbs z) ≡ taken (lengthsOf k)
+  content-here = ap (λ (x : ℤ). contentOf (natAbs x)) (code-is z k e) ∙ content-is z k e
 
-  taken-is : (b : Bool) → isSome (formOf k) ≡ b → isTaken z ≡ b
+  taken-is : (b : Bool) → there (formOf k) ≡ b → isTaken z ≡ b
   taken-is b f = rw e f
 
   pub taken-no : (c : Content) → c ≡ contentOf (natAbs z) → c ≡ ContentIs.NotTaken → isTaken z ≡ false
   unfolding lengthsOf
-  taken-no c f g = taken-is false (by (formOf k) (sym g ∙ (f ∙ content-is)))
+  taken-no c f g = taken-is false (by (formOf k) (sym g ∙ (f ∙ content-here)))
     where
-      by : (o : Option Form) → ContentIs.NotTaken ≡ taken (Option·map (lengthsFor k) o) → isSome o ≡ false
+      by : (o : Option Form) → ContentIs.NotTaken ≡ taken (Option·map (lengthsFor k) o) → there o ≡ false
       by none e = refl
       by (some x) e = cc
 
   pub taken-yes : (c : Content) (l : Lengths) → c ≡ contentOf (natAbs z) → c ≡ ContentIs.Taken l → (isTaken z ≡ true) × (lengthsOf k ≡ some l)
   unfolding lengthsOf
   taken-yes c l f g =
-      let r = by (formOf k) (sym g ∙ (f ∙ content-is)) in
+      let r = by (formOf k) (sym g ∙ (f ∙ content-here)) in
       (taken-is true (r .0), r .1)
     where
-      by : (o : Option Form) → ContentIs.Taken l ≡ taken (Option·map (lengthsFor k) o) → (isSome o ≡ true) × (Option·map (lengthsFor k) o ≡ some l)
+      by : (o : Option Form) → ContentIs.Taken l ≡ taken (Option·map (lengthsFor k) o) → (there o ≡ true) × (Option·map (lengthsFor k) o ≡ some l)
       by none e = (cc, cc)
       by (some x) e = (refl, cc)
 
@@ -93,12 +85,6 @@ module _ (z : ℤ) (k : Kind) (e : kindAt z ≡ some k) where
 
 pub zero-fits : SFits w32 (pos 0)
 zero-fits = record { sfits = lit< tt }
-
-pub same-code : (x y : ℤ) → SFits w32 x → SFits w32 y → ofZ w32 x ≡ ofZ w32 y → sameInt x y ≡ true
-same-code x y f g e = same-yes x y (sym (toZ-ofZ w32 x f) ∙ (ap (toZ w32) e ∙ toZ-ofZ w32 y g))
-
-pub other-code : (x y : ℤ) → (ofZ w32 x ≡ ofZ w32 y → ⊥) → sameInt x y ≡ false
-other-code x y e = same-no x y (λ p. e (ap (ofZ w32) p))
 
 -- ---- the wanted kind
 

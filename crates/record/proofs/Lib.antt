@@ -1,7 +1,6 @@
 -- The laws of this crate's definitions, as the code meets them.
 pub mod Determined
 mod FrontLaws
-mod NearLaws
 mod PartsLaws
 mod PointLaws
 mod ShapeLaws

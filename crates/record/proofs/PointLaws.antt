@@ -10,14 +10,14 @@ use lib.ListN.{length}
 use Rattle.format.specs.declared.kinds.Kind.{Kind}
 use Rattle.format.specs.declared.lengths.Lengths.{Lengths}
 use Rattle.format.specs.declared.units.Bytes.{Bytes}
-use Rattle.format.specs.Lengths.{onePoint, contentWords, lengthsFor}
+use Rattle.format.specs.Lengths.{onePoint, contentWords, lengthsFor, formulaWords}
 use Rattle.format.specs.Order.{first, fieldsFrom}
 use Rattle.format.specs.Said.{Said, gives, short}
 use Rattle.format.proofs.OrderLaws.{fields-whole, fields-cut}
 use Rattle.record.specs.declared.Point.{Point}
 use Rattle.record.specs.declared.RecordAnswer.the-variants as Is
 use Rattle.record.specs.Reading.{Shaped, pointShape, codeIn, isWords, pointIn, doublesOf, pointOf}
-use Rattle.record.specs.Steps.{wordsOf, Answers}
+use Rattle.record.specs.Steps.{Answers}
 
 -- ---- where Z and M stand
 
@@ -42,15 +42,15 @@ module _ (k : Kind) (n : ℕ) (h : 4 + 8 * doublesOf k ≤ n) where
 -- ---- what is said
 
 module _ (k : Kind) (l : Lengths) (size : Bytes) (s : List ℕ) (e : l ≡ lengthsFor k onePoint) where
-  size-is : isWords size (wordsOf (l .with) 0 1) ≡ isWords size (contentWords onePoint (k .z) (k .m) 0 1)
+  size-is : isWords size (formulaWords (l .with) 0 1) ≡ isWords size (contentWords onePoint (k .z) (k .m) 0 1)
   unfolding contentWords
-  size-is = ap (λ (x : Lengths). isWords size (wordsOf (x .with) 0 1)) e
+  size-is = ap (λ (x : Lengths). isWords size (formulaWords (x .with) 0 1)) e
 
-  pub other-size : false ≡ isWords size (wordsOf (l .with) 0 1) → Answers (pointOf k size s) (Is.Size 0)
+  pub other-size : false ≡ isWords size (formulaWords (l .with) 0 1) → Answers (pointOf k size s) (Is.Size 0)
   unfolding pointOf
   other-size q = record { says = rw (sym (q ∙ size-is)); none = refl }
 
-  module _ (q : true ≡ isWords size (wordsOf (l .with) 0 1)) where
+  module _ (q : true ≡ isWords size (formulaWords (l .with) 0 1)) where
     shaped : Said Shaped
     shaped = gives (pointShape (codeIn s) (pointIn k s))
 

@@ -12,13 +12,14 @@ use borrow.Author.Tests.{eq-eqb, ne-eqb}
 use Rattle.format.specs.declared.kinds.Kind.{Kind}
 use Rattle.format.specs.declared.lengths.Lengths.{Lengths}
 use Rattle.format.specs.declared.units.Bytes.{Bytes}
-use Rattle.format.specs.Lengths.{Form, nothing, onePoint, parts, formOf, lengthsFor, lengthsOf}
+use Rattle.format.specs.Kinds.{kindOr}
+use Rattle.format.specs.Lengths.{Form, nothing, onePoint, parts, formOf, lengthsFor, lengthsOf, formIn}
 use Rattle.format.specs.Said.{Said}
 use Rattle.multipart.specs.Body.{zIn, mIn}
 use Rattle.record.specs.declared.Wanted.{Wanted}
 use Rattle.record.specs.declared.RecordAnswer.{RecordAnswer}
 use Rattle.record.specs.declared.RecordAnswer.the-variants as Is
-use Rattle.record.specs.Reading.{Shaped, codeIn, kindOr, formIn, frontTests, pointOf, partsOf, byForm, recordOf, stored, ReadsRecord}
+use Rattle.record.specs.Reading.{Shaped, codeIn, frontTests, pointOf, partsOf, byForm, recordOf, stored, ReadsRecord}
 use Rattle.record.specs.Steps.{Passes, Refuses, Takes, Answers, Reads, restFrom, partsFrom}
 use Rattle.record.proofs.PartsLaws.{stored-none}
 

@@ -1,6 +1,6 @@
 -- Laws of sizes: what size minus 4 within i32 says of the size, and the size against a formula in words.
 use mathlib.Core.Path.{_≡_, refl, sym, ap, _∙_, subst}
-use mathlib.Core.Bool.{Bool, true, false, cond, _&&_, _||_}
+use mathlib.Core.Bool.{Bool, true, false, _&&_, _||_}
 use Prim.Native.Nat.{ℕ, suc, _+_, _*_, _-_, _^_, _≤_, _<_}
 use native.Mathlib.Omega.{arith}
 use lib.Dec.{T, eqb, ltb}
@@ -15,11 +15,12 @@ use Rattle.format.specs.declared.lengths.Lengths.{Lengths}
 use Rattle.format.specs.declared.lengths.Counted.the-variants.{Is, Long}
 use Rattle.format.specs.declared.units.Bytes.{Bytes}
 use Rattle.format.specs.declared.units.Words.{Words}
-use Rattle.format.specs.Lengths.{parts, contentWords, lengthsFor, counted, heldWords}
+use Rattle.format.specs.Lengths.{parts, contentWords, lengthsFor, counted, formulaWords}
 use Rattle.format.specs.Units.{sameInt, inI32, inBytes}
+use Rattle.format.proofs.LengthLaws.{counted-long, counted-held}
 use Rattle.format.proofs.UnitLaws.{same-yes, same-no, same-bits}
 use Rattle.record.specs.Reading.{isWords, hasM, sizeRight}
-use Rattle.record.specs.Steps.{Held, wordsOf, two}
+use Rattle.record.specs.Steps.{Held, two}
 
 -- ---- size minus 4
 
@@ -71,13 +72,8 @@ module _ (size : Bytes) (h : Held size) where
       same-no (size .0) (pos (2 * w))
       (λ e. let f : 2 * w < 2 ^ 32 = below (2 * w) (subst (λ (z : ℤ). inI32 (z -ℤ pos 4) ≡ true) e h) in omega arith)
 
-  pub long-size : (f : Formula) (p n : ℕ) → Long ≡ counted f p n → false ≡ isWords size (wordsOf f p n)
-  unfolding counted
-  long-size f p n e = by (ltb (wordsOf f p n) (2 ^ 31)) refl e
-    where
-      by : (b : Bool) → ltb (wordsOf f p n) (2 ^ 31) ≡ b → Long ≡ cond b (Is (record { 0 = pos (wordsOf f p n) })) Long → false ≡ isWords size (wordsOf f p n)
-      by true t q = cc
-      by false t q = sym (not-long (wordsOf f p n) (ltb-false (wordsOf f p n) (2 ^ 31) t))
+  pub long-size : (f : Formula) (p n : ℕ) → Long ≡ counted f p n → false ≡ isWords size (formulaWords f p n)
+  long-size f p n e = sym (not-long (formulaWords f p n) (counted-long f p n e))
 
 -- a test of two numbers, from the test of their bits
 bits-same : (x y : ℤ) → SFits w64 x → SFits w64 y → eqb (ofZ w64 y) (ofZ w64 x) ≡ sameInt x y
@@ -87,20 +83,12 @@ bits-same x y f g = by (eqb (ofZ w64 y) (ofZ w64 x)) refl
     by true t = sym (same-yes x y (same-bits x y f g (sym (eqb-true (ofZ w64 y) (ofZ w64 x) t))))
     by false t = sym (same-no x y (λ e. eqb-false (ofZ w64 y) (ofZ w64 x) t (ap (ofZ w64) (sym e))))
 
-held-is : (w : Words) (n : ℕ) → Is w ≡ heldWords n → (n < 2 ^ 31) × (w ≡ record { 0 = pos n })
-held-is w n e = by (ltb n (2 ^ 31)) refl e
-  where
-    by : (b : Bool) → ltb n (2 ^ 31) ≡ b → Is w ≡ cond b (Is (record { 0 = pos n })) Long → (n < 2 ^ 31) × (w ≡ record { 0 = pos n })
-    by true t q = (ltb-true n (2 ^ 31) t, cc)
-    by false t q = let z : _≡_ {A = ℕ} 0 1 = cc in absurd (omega arith)
-
 -- the code compares the bits of the bytes that the words come to
-pub words-size : (size : Bytes) (f : Formula) (p n : ℕ) (w : Words) (b : Bytes) → SFits w64 (size .0) → Is w ≡ counted f p n → b ≡ inBytes w → eqb (ofZ w64 (b .0)) (ofZ w64 (size .0)) ≡ isWords size (wordsOf f p n)
-unfolding counted
+pub words-size : (size : Bytes) (f : Formula) (p n : ℕ) (w : Words) (b : Bytes) → SFits w64 (size .0) → Is w ≡ counted f p n → b ≡ inBytes w → eqb (ofZ w64 (b .0)) (ofZ w64 (size .0)) ≡ isWords size (formulaWords f p n)
 words-size size f p n w b s e g =
-    let h = held-is w (wordsOf f p n) e in
-    let d : b .0 ≡ pos (2 * wordsOf f p n) = ap (λ (x : Bytes). x .0) g ∙ (ap (λ (x : Words). x .0 +ℤ x .0) (h .1) ∙ ap pos (omega arith)) in
-    ap (λ (z : ℤ). eqb (ofZ w64 z) (ofZ w64 (size .0))) d ∙ bits-same (size .0) (pos (2 * wordsOf f p n)) s (record { sfits = omega (arith, h .0) })
+    let h = counted-held f p n w e in
+    let d : b .0 ≡ pos (2 * formulaWords f p n) = ap (λ (x : Bytes). x .0) g ∙ (ap (λ (x : Words). x .0 +ℤ x .0) (h .1) ∙ ap pos (omega arith)) in
+    ap (λ (z : ℤ). eqb (ofZ w64 z) (ofZ w64 (size .0))) d ∙ bits-same (size .0) (pos (2 * formulaWords f p n)) s (record { sfits = omega (arith, h .0) })
 
 -- ---- the two formulas of a kind with parts
 
@@ -108,32 +96,32 @@ module _ (k : Kind) (l : Lengths) (size : Bytes) (p n : ℕ) (e : l ≡ lengthsF
   abbrev fits : Bool → Bool
   fits m = isWords size (contentWords parts (k .z) m p n)
 
-  with-is : isWords size (wordsOf (l .with) p n) ≡ fits (k .m)
+  with-is : isWords size (formulaWords (l .with) p n) ≡ fits (k .m)
   unfolding contentWords
-  with-is = ap (λ (x : Lengths). isWords size (wordsOf (x .with) p n)) e
+  with-is = ap (λ (x : Lengths). isWords size (formulaWords (x .with) p n)) e
 
-  without-is : isWords size (wordsOf (l .without) p n) ≡ fits false
+  without-is : isWords size (formulaWords (l .without) p n) ≡ fits false
   unfolding contentWords
-  without-is = ap (λ (x : Lengths). isWords size (wordsOf (x .without) p n)) e
+  without-is = ap (λ (x : Lengths). isWords size (formulaWords (x .without) p n)) e
 
   or-true : (a : Bool) → (a || true) ≡ true
   or-true true = refl
   or-true false = refl
 
   -- with m
-  pub size-with : true ≡ isWords size (wordsOf (l .with) p n) → k .m ≡ true → (sizeRight k size (two p n) ≡ true) × (hasM k size (two p n) ≡ true)
+  pub size-with : true ≡ isWords size (formulaWords (l .with) p n) → k .m ≡ true → (sizeRight k size (two p n) ≡ true) × (hasM k size (two p n) ≡ true)
   size-with q m =
       let f : fits true ≡ true = ap fits (sym m) ∙ sym (q ∙ with-is) in
       (rw (m, f) (or-true (fits false)), rw (m, f))
 
   -- of a kind that has none
-  pub size-plain : true ≡ isWords size (wordsOf (l .with) p n) → k .m ≡ false → (sizeRight k size (two p n) ≡ true) × (hasM k size (two p n) ≡ false)
+  pub size-plain : true ≡ isWords size (formulaWords (l .with) p n) → k .m ≡ false → (sizeRight k size (two p n) ≡ true) × (hasM k size (two p n) ≡ false)
   size-plain q m =
       let f : fits false ≡ true = ap fits (sym m) ∙ sym (q ∙ with-is) in
       (rw f, rw m)
 
   -- not the one with m
-  module _ (q : false ≡ isWords size (wordsOf (l .with) p n)) where
+  module _ (q : false ≡ isWords size (formulaWords (l .with) p n)) where
     no-m : hasM k size (two p n) ≡ false
     no-m = by (k .m) (sym (q ∙ with-is))
       where
@@ -141,12 +129,12 @@ module _ (k : Kind) (l : Lengths) (size : Bytes) (p n : ℕ) (e : l ≡ lengthsF
         by true f = f
         by false f = refl
 
-    pub size-without : true ≡ isWords size (wordsOf (l .without) p n) → (sizeRight k size (two p n) ≡ true) × (hasM k size (two p n) ≡ false)
+    pub size-without : true ≡ isWords size (formulaWords (l .without) p n) → (sizeRight k size (two p n) ≡ true) × (hasM k size (two p n) ≡ false)
     size-without r =
         let f : fits false ≡ true = sym (r ∙ without-is) in
         (rw f, no-m)
 
-    pub size-neither : false ≡ isWords size (wordsOf (l .without) p n) → sizeRight k size (two p n) ≡ false
+    pub size-neither : false ≡ isWords size (formulaWords (l .without) p n) → sizeRight k size (two p n) ≡ false
     size-neither r =
         let f : fits false ≡ false = sym (r ∙ without-is) in
         rw f no-m

@@ -6,16 +6,17 @@ use mathlib.Core.Option.{Option, none, some}
 use Prim.Native.Nat.{ℕ, _+_, _*_}
 use lib.Dec.{eqb}
 use lib.Ieee.{Float, binary64, ofInt}
-use lib.IntN.{ℤ, pos, negsuc, _+ℤ_, _-ℤ_}
-use lib.ListN.{length, getElem?, drop}
+use lib.IntN.{ℤ, pos, _+ℤ_, _-ℤ_}
+use lib.ListN.{length, drop}
 use lib.Seq.{sets}
 use Rattle.format.specs.declared.kinds.Kind.{Kind}
 use Rattle.format.specs.declared.units.Bytes.{Bytes}
-use Rattle.format.specs.Kinds.{kind, kinds, rowOf, known}
-use Rattle.format.specs.Lengths.{Form, nothing, onePoint, parts, formOf, contentWords}
+use Rattle.format.specs.Kinds.{known, kindAt, kindOr}
+use Rattle.format.specs.Lengths.{Form, nothing, onePoint, parts, contentWords, formAt}
 use Rattle.format.specs.Numbers.{leI32, leF64}
 use Rattle.format.specs.Order.{first, whole, fieldsFrom}
 use Rattle.format.specs.Said.{Said, gives, refuses, short, wrongSize, unknown, mismatch, room, notTaken}
+use Rattle.format.specs.Shapes.{there}
 use Rattle.format.specs.Units.{sameInt, inI32}
 use Rattle.multipart.specs.declared.Body.{Body}
 use Rattle.multipart.specs.Answers.{Two, countsOf}
@@ -37,25 +38,9 @@ pub data Shaped : Type 0 where
 abbrev pub codeIn : List ℕ → ℤ
 codeIn s = leI32 0 s
 
-abbrev pub kindAt : ℤ → Option Kind
-kindAt (pos n) = getElem? kinds (rowOf n kinds)
-kindAt (negsuc n) = none
-
-abbrev pub kindOr : Option Kind → Kind
-kindOr none = kind 0 false false false
-kindOr (some k) = k
-
-abbrev pub formIn : Option Kind → Option Form
-formIn none = none
-formIn (some k) = formOf k
-
-abbrev pub isSome : {A : Type 0} → Option A → Bool
-isSome none = false
-isSome (some a) = true
-
 -- a kind that is taken
 abbrev pub isTaken : ℤ → Bool
-isTaken code = isSome (formIn (kindAt code))
+isTaken code = there (formAt code)
 
 -- ---- the tests in front of the shape
 
@@ -135,7 +120,7 @@ byForm (some parts) k size s counts xy zs ms = partsOf k size s counts xy zs ms
 -- what reading a record says, with stores of these lengths
 unfoldable pub recordOf : Wanted → Bytes → List ℕ → ℕ → ℕ → ℕ → ℕ → Said Shaped
 recordOf wanted size s counts xy zs ms =
-    first (frontTests wanted size s) (byForm (formIn (kindAt (codeIn s))) (kindOr (kindAt (codeIn s))) size s counts xy zs ms)
+    first (frontTests wanted size s) (byForm (formAt (codeIn s)) (kindOr (kindAt (codeIn s))) size s counts xy zs ms)
 
 -- ---- the answer in document 01's terms, and the stores
 

@@ -3,15 +3,14 @@ use mathlib.Core.Path.{_≡_}
 use mathlib.Core.Bool.{Bool, true, false, cond}
 use mathlib.Core.List.{List, [], _∷_, _++_}
 use mathlib.Core.Option.{some}
-use Prim.Native.Nat.{ℕ, _+_, _*_, _≤_}
+use Prim.Native.Nat.{ℕ, _≤_}
 use lib.Ieee.{Float, binary64, ofInt}
 use lib.IntN.{ℤ, pos, _-ℤ_}
 use lib.ListN.{length}
 use Rattle.format.specs.declared.kinds.Kind.{Kind}
-use Rattle.format.specs.declared.lengths.Formula.{Formula}
 use Rattle.format.specs.declared.lengths.Lengths.{Lengths}
 use Rattle.format.specs.declared.units.Bytes.{Bytes}
-use Rattle.format.specs.Kinds.{known}
+use Rattle.format.specs.Kinds.{known, kindAt}
 use Rattle.format.specs.Lengths.{lengthsOf}
 use Rattle.format.specs.Numbers.{leF64}
 use Rattle.format.specs.Order.{first, whole}
@@ -28,7 +27,7 @@ use Rattle.record.specs.declared.front.Front.{Front}
 use Rattle.record.specs.declared.front.Front.the-variants as FrontIs
 use Rattle.record.specs.declared.sizes.Sized.{Sized}
 use Rattle.record.specs.declared.sizes.Sized.the-variants as SizedIs
-use Rattle.record.specs.Reading.{Shaped, partsShape, codeIn, kindAt, isTaken, mismatchTests, moved, andThen, hasM, sizeRight, saidRecord, stored}
+use Rattle.record.specs.Reading.{Shaped, partsShape, codeIn, isTaken, mismatchTests, moved, andThen, hasM, sizeRight, saidRecord, stored}
 
 -- ---- the tests in front of the shape
 
@@ -81,10 +80,6 @@ Fronts ts size s (FrontIs.On k l) = Passes ts × Takes size s k l
 Fronts ts size s (FrontIs.Refused r) = Refuses ts r
 
 -- ---- a size
-
--- what a formula comes to
-abbrev pub wordsOf : Formula → ℕ → ℕ → ℕ
-wordsOf f p n = f .fixed + 2 * p + f .point * n
 
 abbrev pub two : ℕ → ℕ → Two
 two p n = record { parts = p; points = n }

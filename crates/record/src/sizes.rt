@@ -1,8 +1,8 @@
 // Sizes in bytes against the table's formulas in words.
 ghost use mathlib.Core.Path.{_≡_};
-ghost use Rattle.format.specs.Lengths.{parts, lengthsFor};
+ghost use Rattle.format.specs.Lengths.{parts, lengthsFor, formulaWords};
 ghost use Rattle.record.specs.Reading.{isWords};
-ghost use Rattle.record.specs.Steps.{Held, wordsOf, two, Sizes};
+ghost use Rattle.record.specs.Steps.{Held, two, Sizes};
 use format::kinds::Kind;
 use format::lengths::Counted;
 use format::lengths::Formula;
@@ -19,7 +19,7 @@ pub enum Sized {
 // Whether a size is what a formula comes to.
 pub(crate) fn has_words(size: Bytes, f: Formula, p: u32, n: u32) -> bool
     requires { ⌜ Held size ⌝ }
-    ensures { λ r. ⌜ r ≡ isWords size (wordsOf f p n) ⌝ }
+    ensures { λ r. ⌜ r ≡ isWords size (formulaWords f p n) ⌝ }
 {
     match format::lengths::content_words(f, p, n) {
         Counted::Long => false,

@@ -11,11 +11,12 @@ use lib.ListN.{length, getD, take, set}
 use lib.Seq.{sets, length-take-le, getD-take}
 use borrow.Author.Tests.{eq-eqb, ne-eqb, le-leb, lt-leb, eqb-true}
 use Rattle.format.specs.Said.{gives, room, tables, unlessRefused}
+use Rattle.format.proofs.NumberLaws.{zero-bits}
 use Rattle.rings.specs.declared.CloseAnswer.{CloseAnswer}
 use Rattle.rings.specs.declared.CloseAnswer.the-variants as Has
 use Rattle.rings.specs.Points.{Point, points, flat, closed, appended, number, products, plus, halfSum, outer, inner, turning}
 use Rattle.rings.specs.Answers.{ofRun, closedOf, turningOf, saidClosing, front, countThen, closingOf, storeThen, Closing}
-use Rattle.rings.proofs.PointLaws.{pointAt, length-points, appends-none, appends-first, zero-bits, two-bits}
+use Rattle.rings.proofs.PointLaws.{pointAt, length-points, appends-none, appends-first, two-bits}
 
 -- ---- what is said of a run
 

@@ -89,10 +89,6 @@ sum-end xy i sum h = ap (plus sum) (no-neighbours (drop i xy) (simp length-drop 
 
 -- ---- the code's numbers
 
-pub zero-bits : ofBits binary64 0 ≡ number 0
-unfolding ofBits ofInt
-zero-bits = refl
-
 pub two-bits : ofBits binary64 0x4000_0000_0000_0000 ≡ number 2
 unfolding ofBits ofInt
 two-bits = refl

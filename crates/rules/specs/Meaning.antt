@@ -3,10 +3,11 @@ use mathlib.Core.Path.{_≡_}
 use mathlib.Core.List.{List, [], _∷_}
 use mathlib.Core.Option.{some}
 use Prim.Native.Nat.{ℕ, _+_}
-use lib.ListN.{length, getElem?}
+use lib.IntN.{pos}
+use lib.ListN.{length}
 use Rattle.format.specs.declared.kinds.Kind.{Kind}
 use Rattle.format.specs.Encoding.{Box, IsPair}
-use Rattle.format.specs.Kinds.{kinds, rowOf}
+use Rattle.format.specs.Kinds.{kindAt}
 use Rattle.format.specs.Lengths.{Form, formOf}
 use Rattle.format.specs.Shapes.{Shape, OfKind, partsIn, pointsIn}
 use Rattle.format.specs.WellFormed.{WellFormed, BoxFinite}
@@ -16,7 +17,7 @@ use Rattle.rules.specs.Rules.{Counts}
 -- one of the fourteen kinds, and a taken one
 pub record TakenKind (k : Kind) : Type 0 where
   pub form : Form
-  pub in-table : getElem? kinds (rowOf (k .code) kinds) ≡ some k
+  pub in-table : kindAt (pos (k .code)) ≡ some k
   pub taken : formOf k ≡ some form
 
 -- every shape is one of the kind, and well-formed

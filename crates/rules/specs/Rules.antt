@@ -5,14 +5,16 @@ use mathlib.Core.List.{List, [], _∷_, _++_}
 use mathlib.Core.Option.{Option, none, some}
 use Prim.Native.Nat.{ℕ, zero, suc, _+_, _*_, _-_, _/_, _%_, _^_}
 use lib.Dec.{leb, ltb, eqb}
-use lib.ListN.{length, drop, replicate, getElem?}
+use lib.IntN.{pos}
+use lib.ListN.{length, drop, replicate}
 use Rattle.format.specs.declared.kinds.Kind.{Kind}
 use Rattle.format.specs.Bytes.{le, be, field}
-use Rattle.format.specs.Kinds.{kinds, rowOf}
+use Rattle.format.specs.Kinds.{kindAt}
 use Rattle.format.specs.Lengths.{Form, nothing, onePoint, parts, formOf, mayLackM, contentWords}
 use Rattle.format.specs.Numbers.{finite}
 use Rattle.format.specs.Order.{first}
 use Rattle.format.specs.Said.{Said, gives, fault}
+use Rattle.format.specs.Shapes.{there}
 use Rattle.format.specs.WellFormed.{hasRings, leastPoints, sameNumber}
 
 -- ---- fields of the bytes
@@ -59,11 +61,7 @@ takenOf (some k) = withForm k (formOf k)
 
 -- the taken kind that the header names, if it does
 unfoldable pub takenIn : List ℕ → Option Taken
-takenIn shp = takenOf (getElem? kinds (rowOf (littleAt 32 shp) kinds))
-
-abbrev pub isTaken : Option Taken → Bool
-isTaken none = false
-isTaken (some t) = true
+takenIn shp = takenOf (kindAt (pos (littleAt 32 shp)))
 
 abbrev pub P3 : List ℕ → Bool
 P3 shp = eqb (bigAt 0 shp) 9994 && sameBytes (field 20 4 shp) (replicate 20 0) && eqb (littleAt 28 shp) 1000
@@ -83,7 +81,7 @@ headersRules shp shx =
     (leb 100 (length shp), 1)
     ∷ (leb 100 (length shx), 2)
     ∷ (P3 shp, 3)
-    ∷ (isTaken (takenIn shp), 4)
+    ∷ (there (takenIn shp), 4)
     ∷ (lengthRight shp, 5)
     ∷ (finites 8 36 shp, 6)
     ∷ (P7 shp shx, 7)

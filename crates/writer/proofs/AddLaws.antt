@@ -1,31 +1,29 @@
 -- Laws of adding a record that passed every test: what its writers ask, and that what they leave is what document 01 says.
 use mathlib.Core.Path.{_≡_, refl, sym, ap, _∙_, subst}
-use mathlib.Core.Bool.{Bool, true, false, _&&_, _||_, not}
-use mathlib.Core.List.{List, [], _∷_}
+use mathlib.Core.Bool.{Bool, true, false, _||_, not}
+use mathlib.Core.List.{List}
 use mathlib.Core.Option.{some}
-use Prim.Native.Nat.{ℕ, zero, suc, _+_, _*_, _-_, _^_, _≤_, _<_}
+use Prim.Native.Nat.{ℕ, _+_, _*_, _-_, _^_, _≤_, _<_}
 use native.Mathlib.Omega.{arith}
 use lib.Dec.{T}
-use lib.IntN.{ℤ, pos, negsuc, natAbs}
-use lib.ListN.{length, getElem?}
+use lib.IntN.{ℤ, pos, natAbs}
+use lib.ListN.{length}
 use lib.Seq.{sets}
 use mir.Syntax.{w32}
 use mir.Val.{ofZ}
 use Rattle.format.specs.declared.kinds.Kind.{Kind}
 use Rattle.format.specs.declared.units.Words.{Words}
 use Rattle.format.specs.Encoding.{shapeWords, recordBytes, twoBig}
-use Rattle.format.specs.Kinds.{kinds, rowOf}
+use Rattle.format.specs.Kinds.{kinds, kindAt}
 use Rattle.format.specs.Said.{unlessRefused}
-use Rattle.layouts.proofs.TableLaws.{both}
+use Rattle.format.proofs.KindLaws.{code-is, of-table}
 use Rattle.writer.specs.declared.State.{State}
 use Rattle.writer.specs.declared.AddAnswer.{AddAnswer}
 use Rattle.writer.specs.declared.AddAnswer.the-variants.{Added, Size, Unknown, NotTaken, Mismatch, Tables, Long, Room}
 use Rattle.writer.specs.Adding.{Lent, lentShape, recordOf, entryOf, heldBox, nextState, saidAdd, Adds}
 use Rattle.writer.specs.Boxes.{grown, ownBox}
 use Rattle.writer.specs.Judging.{naturalOf, wordsOf, isRefused, shapeBy, wordsBy, AllPassed, AllRefused, Ready, nextBy}
-use Rattle.writer.specs.State.{kindAt}
-use Rattle.writer.proofs.KindLaws.{code-is}
-use Rattle.writer.proofs.ShapeLaws.{lent-kind, lent-form, shape-is, agreed, words-are}
+use Rattle.writer.proofs.ShapeLaws.{lent-kind, lent-form, shape-is, words-are}
 use Rattle.writer.proofs.StateLaws.{Fine, fine, number-natural, words-natural}
 
 -- ---- a kind with z has m: one test over the table
@@ -33,24 +31,13 @@ use Rattle.writer.proofs.StateLaws.{Fine, fine, number-natural, words-n
 fineRow : Kind → Bool
 fineRow k = not (k .z) || k .m
 
-fineRows : List Kind → Bool
-fineRows [] = true
-fineRows (k ∷ l) = fineRow k && fineRows l
-
-row-fine : (l : List Kind) (i : ℕ) (k : Kind) → fineRows l ≡ true → getElem? l i ≡ some k → fineRow k ≡ true
-unfolding fineRows
-row-fine [] i k h e = absurd (let z : _≡_ {A = ℕ} 0 1 = cc in omega arith)
-row-fine (x ∷ l) zero k h e = let q : x ≡ k = cc in subst (λ (y : Kind). fineRow y ≡ true) q (both (fineRow x) (fineRows l) h .0)
-row-fine (x ∷ l) (suc i) k h e = row-fine l i k (both (fineRow x) (fineRows l) h .1) e
-
 has-m : (z m : Bool) → not z || m ≡ true → z ≡ true → m ≡ true
 has-m true m h e = h
 has-m false m h e = absurd (subst T (sym e) tt)
 
 z-has-m : (code : ℤ) (k : Kind) → kindAt code ≡ some k → k .z ≡ true → k .m ≡ true
-unfolding kinds fineRow fineRows
-z-has-m (pos n) k e = has-m (k .z) (k .m) (row-fine kinds (rowOf n kinds) k refl e)
-z-has-m (negsuc n) k e = absurd (let z : _≡_ {A = ℕ} 0 1 = cc in omega arith)
+unfolding kinds fineRow
+z-has-m code k e = has-m (k .z) (k .m) (of-table fineRow refl code k e)
 
 -- ---- a refusal leaves all as it was
 
@@ -74,7 +61,7 @@ module _ (s : State) (t : Lent) (out start entry : ℕ) (k : Kind) (w : Words) (
   shape = shape-is t k (p .shape .of-code)
 
   words : shapeWords (lentShape t) ≡ wordsBy k (t .counts)
-  words = ap shapeWords shape ∙ words-are k (t .box) (t .counts) (t .xy) (t .zs) (t .ms) (agreed k (t .counts) (t .xy) (t .zs) (t .ms) (p .shape .agrees))
+  words = ap shapeWords shape ∙ words-are k (t .box) (t .counts) (t .xy) (t .zs) (t .ms) (p .shape .agrees)
 
   pub starts : start ≤ out
   starts = omega (arith, p .shape .room)

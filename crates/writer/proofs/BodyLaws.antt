@@ -18,14 +18,15 @@ use Rattle.format.specs.Encoding.{shapeBytes, shapeWords, pointBytes, valueByte
 use Rattle.format.specs.Lengths.{onePoint, parts, fixedWords, pointWords, contentWords}
 use Rattle.format.specs.Numbers.{little, f64Le, f64sLe}
 use Rattle.format.specs.Said.{Said, gives, unlessRefused}
-use Rattle.format.specs.Shapes.{Shape}
+use Rattle.format.specs.Shapes.{Shape, sum}
 use Rattle.header.specs.declared.bbox.BBoxZ.{BBoxZ}
 use Rattle.layouts.specs.declared.LayoutAnswer.{LayoutAnswer}
 use Rattle.layouts.specs.Answers.{agree, bodySize, layoutOf, WritesBody}
-use Rattle.layouts.specs.Tables.{sum, partsOf}
+use Rattle.layouts.specs.Steps.{Agreed}
+use Rattle.layouts.specs.Tables.{partsOf}
 use Rattle.writer.specs.Adding.{valueOf, pointShape}
-use Rattle.writer.specs.Judging.{shapeBy, wordsBy, wordsOf, Ready}
-use Rattle.writer.proofs.ShapeLaws.{Agreed, agreed, empty}
+use Rattle.writer.specs.Judging.{shapeBy, wordsBy, wordsOf, Ready, pointsBy}
+use Rattle.writer.proofs.ShapeLaws.{tables, empty}
 
 -- ---- a point
 
@@ -50,8 +51,8 @@ given false = refl
 
 module _ (k : Kind) (b : BBoxZ) (counts : List ℕ) (xy zs ms : List Float) where
   module _ (bytes : ℕ) (r : Ready k counts xy zs ms bytes) where
-    all : Agreed k counts xy zs ms
-    all = agreed k counts xy zs ms (r .agrees)
+    all : Agreed (k .z) (k .m) (pointsBy k counts) xy zs ms
+    all = tables k counts xy zs ms (r .agrees)
 
     -- what the point's writer asks
     pub point-room : k .parts ≡ false → (length xy ≡ 2) × (16 + 8 * length zs + 8 * length ms ≤ bytes)

@@ -8,21 +8,21 @@ use lib.Dec.{eqb}
 use lib.IntN.{ℤ, pos, negsuc}
 use lib.Signed.{mag}
 use mir.Syntax.{w32}
-use mir.Val.{SFits, ofZ, toZ}
-use mir.ValLaws.{toZ-ofZ}
+use mir.Val.{ofZ}
 use borrow.Author.Tests.{eq-eqb, ne-eqb}
 use Rattle.format.specs.declared.kinds.Kind.{Kind}
 use Rattle.format.specs.declared.lengths.Formula.{Formula}
-use Rattle.format.specs.Kinds.{known}
-use Rattle.format.specs.Lengths.{Form, nothing, onePoint, parts, formOf, formula}
+use Rattle.format.specs.Kinds.{known, kindAt}
+use Rattle.format.specs.Lengths.{Form, nothing, onePoint, parts, formOf, formula, formAt}
+use Rattle.format.specs.Shapes.{there}
 use Rattle.format.specs.Units.{sameInt}
-use Rattle.format.proofs.UnitLaws.{same-yes, same-no}
+use Rattle.format.proofs.KindLaws.{code-is}
 use Rattle.writer.specs.declared.State.{State}
 use Rattle.writer.specs.declared.AddAnswer.the-variants.{Size, Unknown, NotTaken, Mismatch}
 use Rattle.writer.specs.declared.states.Looked.the-variants as LookedIs
 use Rattle.writer.specs.Judging.{byForm, byKind, lookUp, formBy, OfCode, KindFine, KindRefused}
-use Rattle.writer.specs.State.{isZero, kindAt, formAt, isSome, stateFine}
-use Rattle.writer.proofs.KindLaws.{code-is, known-is, isTaken, taken-is, looked-kind}
+use Rattle.writer.specs.State.{isZero, stateFine}
+use Rattle.writer.proofs.KindLaws.{known-is, isTaken, taken-is, looked-kind}
 
 -- ---- numbers by their bits
 
@@ -33,12 +33,6 @@ zero-yes (negsuc n) f e = absurd (omega arith)
 pub zero-no : (z : ℤ) → (ofZ w32 z ≡ 0 → ⊥) → isZero z ≡ false
 zero-no (pos n) e = ne-eqb n 0 e
 zero-no (negsuc n) e = refl
-
-pub bits-same : (x y : ℤ) → SFits w32 x → SFits w32 y → ofZ w32 x ≡ ofZ w32 y → sameInt x y ≡ true
-bits-same x y f g e = same-yes x y (sym (toZ-ofZ w32 x f) ∙ (ap (toZ w32) e ∙ toZ-ofZ w32 y g))
-
-pub bits-differ : (x y : ℤ) → (ofZ w32 x ≡ ofZ w32 y → ⊥) → sameInt x y ≡ false
-bits-differ x y e = same-no x y (λ p. e (ap (ofZ w32) p))
 
 -- ---- the kind's form: parts or one point, where the code is not 0
 
@@ -66,7 +60,7 @@ module _ (code : ℤ) where
       by k none q = cc
       by k (some form) q = cc
 
-      go : (o : Option Kind) → byKind o ≡ LookedIs.Unknown → isSome o ≡ false
+      go : (o : Option Kind) → byKind o ≡ LookedIs.Unknown → there o ≡ false
       go none q = refl
       go (some k) q = by k (formOf k) q
 
@@ -74,11 +68,11 @@ module _ (code : ℤ) where
   unfolding lookUp
   not-known e = known-is code ∙ go (kindAt code) e
     where
-      go : (o : Option Kind) → byKind o ≡ LookedIs.NotTaken → isSome o ≡ true
+      go : (o : Option Kind) → byKind o ≡ LookedIs.NotTaken → there o ≡ true
       go none q = cc
       go (some k) q = refl
 
-  untaken : lookUp code ≡ LookedIs.NotTaken → isSome (formAt code) ≡ false
+  untaken : lookUp code ≡ LookedIs.NotTaken → there (formAt code) ≡ false
   untaken e = taken-is code ∙ ap isTaken e
 
   module _ (k : Kind) (f : Formula) (e : lookUp code ≡ LookedIs.Taken k f) where
@@ -86,9 +80,9 @@ module _ (code : ℤ) where
     here = looked-kind code k f e
 
     is-known : known code ≡ true
-    is-known = known-is code ∙ ap isSome here
+    is-known = known-is code ∙ ap there here
 
-    is-taken : isSome (formAt code) ≡ true
+    is-taken : there (formAt code) ≡ true
     is-taken = taken-is code ∙ ap isTaken e
 
     is-zero : isZero code ≡ eqb (k .code) 0

@@ -1,28 +1,20 @@
 -- Laws of sums of counts, of lengths and of room, in the code's own terms.
-use mathlib.Core.Path.{_≡_, refl, sym, ap}
-use mathlib.Core.Bool.{Bool, true, false, cond}
+use mathlib.Core.Path.{_≡_, sym, ap}
 use mathlib.Core.List.{List}
 use Prim.Native.Nat.{ℕ, _+_, _-_, _^_, _≤_, _<_, min}
 use native.Mathlib.Nat.{min-eq-left, min-eq-right}
-use native.Mathlib.Numerals.{add-one}
 use native.Mathlib.Omega.{arith}
-use lib.Dec.{ltb}
-use lib.ListN.{length, getD, drop, drop-of-length-le}
-use lib.Seq.{drop-cons}
-use borrow.Author.Tests.{ltb-true, ltb-false, lt-ltb, le-ltb, le-leb, lt-leb}
+use lib.ListN.{length, drop, drop-of-length-le}
+use borrow.Author.Tests.{lt-ltb, le-ltb, le-leb, lt-leb}
 use Rattle.format.specs.declared.lengths.Formula.{Formula}
-use Rattle.format.specs.declared.lengths.Counted.the-variants as CountedIs
 use Rattle.format.specs.declared.units.Words.{Words}
-use Rattle.format.specs.Lengths.{counted}
-use Rattle.layouts.specs.Tables.{sum}
+use Rattle.format.specs.Lengths.{formulaWords}
+use Rattle.format.specs.Shapes.{sum}
 use Rattle.writer.specs.declared.judge.LengthJudged.the-variants.{Held, Long}
 use Rattle.writer.specs.declared.judge.RoomJudged.the-variants.{Fits, Needs}
-use Rattle.writer.specs.Judging.{wordsOf, formulaWords, lengthJudged, roomJudged}
+use Rattle.writer.specs.Judging.{wordsOf, lengthJudged, roomJudged}
 
 -- ---- the sum of what is left
-
-pub sum-more : (l : List ℕ) (i : ℕ) → i < length l → sum (drop i l) ≡ getD l i 0 + sum (drop (i + 1) l)
-sum-more l i h = rw (add-one, drop-cons l i 0 h)
 
 pub sum-end : (l : List ℕ) (i : ℕ) → length l ≤ i → sum (drop i l) ≡ 0
 sum-end l i h = ap sum (drop-of-length-le l h)
@@ -36,22 +28,6 @@ within n most h = let k : n ≤ most + 1 = omega arith in sym (min-eq-left k)
 -- ---- the words of a formula
 
 module _ (f : Formula) (p n : ℕ) where
-  by-long : (b : Bool) → ltb (formulaWords f p n) (2 ^ 31) ≡ b → cond b (CountedIs.Is (wordsOf (formulaWords f p n))) CountedIs.Long ≡ CountedIs.Long → 2 ^ 31 ≤ formulaWords f p n
-  by-long true e h = absurd (let z : _≡_ {A = ℕ} 0 1 = cc in omega arith)
-  by-long false e h = ltb-false _ _ e
-
-  pub counted-long : counted f p n ≡ CountedIs.Long → 2 ^ 31 ≤ formulaWords f p n
-  unfolding counted
-  counted-long h = by-long _ refl h
-
-  by-held : (w : Words) (b : Bool) → ltb (formulaWords f p n) (2 ^ 31) ≡ b → cond b (CountedIs.Is (wordsOf (formulaWords f p n))) CountedIs.Long ≡ CountedIs.Is w → (formulaWords f p n < 2 ^ 31) × (w ≡ wordsOf (formulaWords f p n))
-  by-held w true e h = (ltb-true _ _ e, cc)
-  by-held w false e h = absurd (let z : _≡_ {A = ℕ} 0 1 = cc in omega arith)
-
-  pub counted-held : (w : Words) → counted f p n ≡ CountedIs.Is w → (formulaWords f p n < 2 ^ 31) × (w ≡ wordsOf (formulaWords f p n))
-  unfolding counted
-  counted-held w h = by-held w _ refl h
-
   module _ (words : ℕ) where
     pub long-parts : 2 ^ 31 ≤ p → Long ≡ lengthJudged words f p n
     long-parts h = rw (le-ltb p (2 ^ 31) h)

@@ -11,9 +11,9 @@ use Rattle.format.specs.declared.kinds.Kind.{Kind}
 use Rattle.format.specs.declared.lengths.Formula.{Formula}
 use Rattle.format.specs.declared.units.Words.{Words}
 use Rattle.format.specs.Encoding.{shapeWords}
-use Rattle.format.specs.Lengths.{formula}
+use Rattle.format.specs.Lengths.{formula, formulaWords}
 use Rattle.format.specs.Said.{gives, roomBytes}
-use Rattle.layouts.proofs.TableLaws.{both}
+use Rattle.format.proofs.OrderLaws.{both-true}
 use Rattle.writer.specs.declared.State.{State}
 use Rattle.writer.specs.declared.AddAnswer.{AddAnswer}
 use Rattle.writer.specs.declared.AddAnswer.the-variants as AddIs
@@ -23,9 +23,9 @@ use Rattle.writer.specs.declared.judge.TablesJudged.the-variants.{Agree,
 use Rattle.writer.specs.declared.judge.LengthJudged.the-variants.{Held, Long}
 use Rattle.writer.specs.declared.judge.RoomJudged.the-variants.{Fits, Needs}
 use Rattle.writer.specs.Adding.{Lent, lentShape, lentAgree, heldThen, recordSize, addingOf}
-use Rattle.writer.specs.Judging.{naturalOf, wordsOf, OfCode, formBy, pointsBy, agreeBy, formulaWords, tablesJudged, lengthJudged, roomJudged, shapeTests, KindFine, KindRefused, Passed, Refused, JudgesShape, AllRefused, Judges}
+use Rattle.writer.specs.Judging.{naturalOf, wordsOf, OfCode, formBy, pointsBy, agreeBy, tablesJudged, lengthJudged, roomJudged, shapeTests, KindFine, KindRefused, Passed, Refused, JudgesShape, AllRefused, Judges}
 use Rattle.writer.specs.State.{stateFine}
-use Rattle.writer.proofs.ShapeLaws.{agree-is, shape-is, Agreed, agreed, words-are, counts-held, formula-words}
+use Rattle.writer.proofs.ShapeLaws.{agree-is, shape-is, words-are, counts-held, formula-words}
 use Rattle.writer.proofs.StateLaws.{fine, words-natural}
 
 -- ---- an answer says how its test came out
@@ -61,9 +61,6 @@ module _ (s : State) (t : Lent) (k : Kind) (o : OfCode (t .code) k) (ok : stateF
     yes : agreeBy k (t .counts) (t .xy) (t .zs) (t .ms) ≡ true
     yes = agree-by (agreeBy k (t .counts) (t .xy) (t .zs) (t .ms)) (pointsBy k (t .counts)) n h .0
 
-    all : Agreed k (t .counts) (t .xy) (t .zs) (t .ms)
-    all = agreed k (t .counts) (t .xy) (t .zs) (t .ms) yes
-
     points : pointsBy k (t .counts) ≡ n
     points = agree-by (agreeBy k (t .counts) (t .xy) (t .zs) (t .ms)) (pointsBy k (t .counts)) n h .1
 
@@ -73,7 +70,7 @@ module _ (s : State) (t : Lent) (k : Kind) (o : OfCode (t .code) k) (ok : stateF
     shape-words : shapeWords (lentShape t) ≡ formulaWords f (length (t .counts)) n
     shape-words =
         ap shapeWords (shape-is t k o)
-        ∙ (words-are k (t .box) (t .counts) (t .xy) (t .zs) (t .ms) all
+        ∙ (words-are k (t .box) (t .counts) (t .xy) (t .zs) (t .ms) yes
         ∙ (sym (formula-words k (t .counts))
         ∙ (λ i. formulaWords (sym fe i) (length (t .counts)) (points i))))
 
@@ -87,7 +84,7 @@ module _ (s : State) (t : Lent) (k : Kind) (o : OfCode (t .code) k) (ok : stateF
       held-is : heldThen s t ≡ test
       unfolding test
       held-is =
-          rw (← counts-held k (t .box) (t .counts) (t .xy) (t .zs) (t .ms) all, points, shape-words, words-is)
+          rw (← counts-held k (t .box) (t .counts) (t .xy) (t .zs) (t .ms) yes, points, shape-words, words-is)
 
       pub refused-long : lengthJudged w f (length (t .counts)) n ≡ Long → Refused s t out start entry AddIs.Long
       unfolding test
@@ -124,7 +121,7 @@ module _ (s : State) (t : Lent) (k : Kind) (o : OfCode (t .code) k) (ok : stateF
           passed x e =
               let r = fits-by _ _ _ _ _ e in
               let p : leb (start + recordSize t) out ≡ true = ap (λ (z : ℕ). leb (start + z) out) (sym size-is) ∙ r .0 in
-              let g = both _ _ held in
+              let g = both-true _ _ held in
               record {
                 of-code = o;
                 agrees = yes;

@@ -10,14 +10,16 @@ use lib.ListN.{length}
 use borrow.Author.Tests.{eqb-true}
 use Rattle.format.specs.declared.kinds.Kind.{Kind}
 use Rattle.format.specs.Encoding.{shapeWords}
-use Rattle.format.specs.Lengths.{onePoint, parts, formula, contentWords}
-use Rattle.format.specs.Shapes.{there}
+use Rattle.format.specs.Kinds.{kindOr}
+use Rattle.format.specs.Lengths.{onePoint, parts, formula, contentWords, formulaWords}
+use Rattle.format.specs.Shapes.{there, sum}
 use Rattle.header.specs.declared.bbox.BBoxZ.{BBoxZ}
 use Rattle.layouts.specs.Answers.{countsHeld}
-use Rattle.layouts.specs.Tables.{sum, pointsOf, measureOf, partsOf}
-use Rattle.layouts.proofs.TableLaws.{both, length-points, split-length, split-whole}
-use Rattle.writer.specs.Adding.{Lent, kindOr, formOr, lentKind, lentForm, valueOf, pointShape, lentShape, lentAgree}
-use Rattle.writer.specs.Judging.{OfCode, formBy, pointsBy, agreeBy, shapeBy, wordsBy, formulaWords}
+use Rattle.layouts.specs.Steps.{Agreed}
+use Rattle.layouts.specs.Tables.{pointsOf, measureOf, partsOf}
+use Rattle.layouts.proofs.TableLaws.{length-points, split-length, split-whole, agreed}
+use Rattle.writer.specs.Adding.{Lent, formOr, lentKind, lentForm, valueOf, pointShape, lentShape, lentAgree}
+use Rattle.writer.specs.Judging.{OfCode, formBy, pointsBy, agreeBy, shapeBy, wordsBy}
 
 -- ---- what is lent, by its kind
 
@@ -45,12 +47,6 @@ module _ (t : Lent) (k : Kind) (o : OfCode (t .code) k) where
 
 -- ---- tables that agree
 
-pub record Agreed (k : Kind) (counts : List ℕ) (xy zs ms : List Float) : Type 0 where
-  pub no-parts : k .parts ≡ false → counts ≡ []
-  pub xy-has : length xy ≡ 2 * pointsBy k counts
-  pub zs-has : length zs ≡ cond (k .z) (pointsBy k counts) 0
-  pub ms-has : length ms ≡ cond (k .m) (pointsBy k counts) 0
-
 pub empty : {A : Type 0} (l : List A) → length l ≡ 0 → l ≡ []
 empty [] e = refl
 empty (x ∷ l) e = absurd (omega arith)
@@ -59,17 +55,12 @@ none-by : (p : Bool) (counts : List ℕ) → p || eqb (length counts) 0 ≡ true
 none-by true counts h e = absurd (subst T e tt)
 none-by false counts h e = empty counts (eqb-true (length counts) 0 h)
 
-pub agreed : (k : Kind) (counts : List ℕ) (xy zs ms : List Float) → agreeBy k counts xy zs ms ≡ true → Agreed k counts xy zs ms
-agreed k counts xy zs ms e =
-    let p = both _ _ e in
-    let q = both _ _ (p .0) in
-    let r = both _ _ (q .0) in
-    record {
-      no-parts = none-by (k .parts) counts (r .0);
-      xy-has = eqb-true (length xy) (2 * pointsBy k counts) (r .1);
-      zs-has = eqb-true (length zs) (cond (k .z) (pointsBy k counts) 0) (q .1);
-      ms-has = eqb-true (length ms) (cond (k .m) (pointsBy k counts) 0) (p .1);
-    }
+module _ (k : Kind) (counts : List ℕ) (xy zs ms : List Float) (e : agreeBy k counts xy zs ms ≡ true) where
+  pub tables : Agreed (k .z) (k .m) (pointsBy k counts) xy zs ms
+  tables = agreed (k .parts || eqb (length counts) 0) (k .z) (k .m) (pointsBy k counts) xy zs ms e .1
+
+  no-parts : k .parts ≡ false → counts ≡ []
+  no-parts = none-by (k .parts) counts (agreed (k .parts || eqb (length counts) 0) (k .z) (k .m) (pointsBy k counts) xy zs ms e .0)
 
 -- ---- the words of the shape
 
@@ -94,20 +85,20 @@ point-words k [] zs ms e f g = absurd (omega arith)
 point-words k (x ∷ []) zs ms e f g = absurd (omega arith)
 point-words k (x ∷ y ∷ xy) zs ms e f g = rw (there-value (k .z) zs f, there-value (k .m) ms g)
 
-module _ (k : Kind) (b : BBoxZ) (counts : List ℕ) (xy zs ms : List Float) (a : Agreed k counts xy zs ms) where
+module _ (k : Kind) (b : BBoxZ) (counts : List ℕ) (xy zs ms : List Float) (e : agreeBy k counts xy zs ms ≡ true) where
   pub words-are : shapeWords (shapeBy k b counts xy zs ms) ≡ wordsBy k counts
-  words-are = go (k .parts) refl a
+  words-are = go (k .parts) refl (tables k counts xy zs ms e)
     where
-      go : (p : Bool) → k .parts ≡ p → Agreed k counts xy zs ms → shapeWords (shapeBy k b counts xy zs ms) ≡ wordsBy k counts
-      go true e a = rw e (parts-words (k .z) (k .m) b counts xy zs ms (rw e at (a .xy-has)))
-      go false e a = rw (e, a .no-parts e) (point-words k xy zs ms (rw e at (a .xy-has)) (rw e at (a .zs-has)) (rw e at (a .ms-has)))
+      go : (p : Bool) → k .parts ≡ p → Agreed (k .z) (k .m) (pointsBy k counts) xy zs ms → shapeWords (shapeBy k b counts xy zs ms) ≡ wordsBy k counts
+      go true q a = rw q (parts-words (k .z) (k .m) b counts xy zs ms (rw q at (a .xy-has)))
+      go false q a = rw (q, no-parts k counts xy zs ms e q) (point-words k xy zs ms (rw q at (a .xy-has)) (rw q at (a .zs-has)) (rw q at (a .ms-has)))
 
   pub counts-held : ltb (length counts) (2 ^ 31) && ltb (pointsBy k counts) (2 ^ 31) ≡ countsHeld counts
   counts-held = go (k .parts) refl
     where
       go : (p : Bool) → k .parts ≡ p → ltb (length counts) (2 ^ 31) && ltb (pointsBy k counts) (2 ^ 31) ≡ countsHeld counts
-      go true e = rw e
-      go false e = rw (e, a .no-parts e)
+      go true q = rw q
+      go false q = rw (q, no-parts k counts xy zs ms e q)
 
 pub formula-words : (k : Kind) (counts : List ℕ) → formulaWords (formula (formBy k) (k .z) (k .m)) (length counts) (pointsBy k counts) ≡ wordsBy k counts
 unfolding contentWords

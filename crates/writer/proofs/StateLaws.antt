@@ -11,14 +11,17 @@ use lib.Signed.{ltZ, mag}
 use borrow.Author.Tests.{ltb-true, leb-true}
 use Rattle.format.specs.declared.kinds.Kind.{Kind}
 use Rattle.format.specs.declared.lengths.Formula.{Formula}
-use Rattle.format.specs.Kinds.{known}
-use Rattle.layouts.proofs.TableLaws.{both}
+use Rattle.format.specs.Kinds.{known, kindAt}
+use Rattle.format.specs.Lengths.{formAt}
+use Rattle.format.specs.Shapes.{there}
+use Rattle.format.proofs.KindLaws.{code-is}
+use Rattle.format.proofs.OrderLaws.{both-true}
 use Rattle.writer.specs.declared.State.{State}
 use Rattle.writer.specs.declared.states.Looked.{Looked}
 use Rattle.writer.specs.declared.states.Looked.the-variants.{Taken}
 use Rattle.writer.specs.Judging.{naturalOf, byKind, lookUp, countsFine}
-use Rattle.writer.specs.State.{atLeast, isZero, kindAt, formAt, isSome, stateFine}
-use Rattle.writer.proofs.KindLaws.{code-is, known-is, isTaken, taken-is, looked-kind}
+use Rattle.writer.specs.State.{atLeast, isZero, stateFine}
+use Rattle.writer.proofs.KindLaws.{known-is, isTaken, taken-is, looked-kind}
 
 -- ---- a number, or 0 for one below
 
@@ -56,14 +59,14 @@ module _ (s : State) where
   pub fine-taken : (k : Kind) (f : Formula) → lookUp (s .kind) ≡ Taken k f → countsFine (naturalOf (s .words .0)) (naturalOf (s .number)) (eqb (k .code) 0) ≡ stateFine s
   unfolding stateFine
   fine-taken k f e =
-      let t : isSome (formAt (s .kind)) ≡ true = taken-is (s .kind) ∙ ap isTaken e in
+      let t : there (formAt (s .kind)) ≡ true = taken-is (s .kind) ∙ ap isTaken e in
       let z : isZero (s .kind) ≡ eqb (k .code) 0 = ap isZero (code-is (s .kind) k (looked-kind (s .kind) k f e)) in
       rw (t, z) (sym (fine-by (s .words .0) (s .number) (eqb (k .code) 0)))
 
   pub fine-no : (r : Looked) → lookUp (s .kind) ≡ r → isTaken r ≡ false → false ≡ stateFine s
   unfolding stateFine
   fine-no r e n =
-      let t : isSome (formAt (s .kind)) ≡ false = taken-is (s .kind) ∙ (ap isTaken e ∙ n) in
+      let t : there (formAt (s .kind)) ≡ false = taken-is (s .kind) ∙ (ap isTaken e ∙ n) in
       rw t (sym (ends (atLeast 50 (s .words .0)) (atLeast 1 (s .number)) _ _))
 
 -- ---- what holds of a writer state
@@ -72,17 +75,16 @@ is-pos : (n : ℕ) (z : ℤ) → atLeast n z ≡ true → (z ≡ pos (natAbs z))
 is-pos n (pos m) e = (refl, leb-true n m e)
 is-pos n (negsuc m) e = absurd (subst T (sym e) tt)
 
-kind-pos : (z : ℤ) → isSome (formAt z) ≡ true → z ≡ pos (natAbs z)
+kind-pos : (z : ℤ) → there (formAt z) ≡ true → z ≡ pos (natAbs z)
 kind-pos (pos n) e = refl
 kind-pos (negsuc n) e = absurd (subst T (sym e) tt)
 
-some-kind : (o : Option Kind) → isTaken (byKind o) ≡ true → isSome o ≡ true
+some-kind : (o : Option Kind) → isTaken (byKind o) ≡ true → there o ≡ true
 some-kind none e = e
 some-kind (some k) e = refl
 
 pub record Fine (s : State) : Type 0 where
   pub words-is : s .words .0 ≡ pos (natAbs (s .words .0))
-  pub words-least : 50 ≤ natAbs (s .words .0)
   pub number-is : s .number ≡ pos (natAbs (s .number))
   pub number-least : 1 ≤ natAbs (s .number)
   pub room : 50 + 6 * (natAbs (s .number) - 1) ≤ natAbs (s .words .0)
@@ -92,16 +94,15 @@ pub record Fine (s : State) : Type 0 where
 pub fine : (s : State) → stateFine s ≡ true → Fine s
 unfolding stateFine lookUp
 fine s e =
-    let p4 = both _ _ e in
-    let p3 = both _ _ (p4 .0) in
-    let p2 = both _ _ (p3 .0) in
-    let p1 = both _ _ (p2 .0) in
+    let p4 = both-true _ _ e in
+    let p3 = both-true _ _ (p4 .0) in
+    let p2 = both-true _ _ (p3 .0) in
+    let p1 = both-true _ _ (p2 .0) in
     let w = is-pos 50 (s .words .0) (p1 .0) in
     let n = is-pos 1 (s .number) (p1 .1) in
     let k = kind-pos (s .kind) (p2 .1) in
     record {
       words-is = w .0;
-      words-least = w .1;
       number-is = n .0;
       number-least = n .1;
       room = leb-true _ _ (p3 .1);

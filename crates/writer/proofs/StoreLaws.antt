@@ -6,7 +6,7 @@ use native.Mathlib.Nat.{le-of-eq, zero-add}
 use native.Mathlib.Omega.{arith}
 use lib.Ieee.{Float}
 use lib.IntN.{ℤ}
-use lib.ListN.{length, take, drop, set, length-append, length-drop}
+use lib.ListN.{length, take, drop, set, length-drop}
 use lib.Seq.{sets, take-all, drop-length}
 use mir.Syntax.{w32}
 use mir.Val.{ofZ}
@@ -14,7 +14,7 @@ use borrow.Rule.Slice.PartMut.{midOf, putMid}
 use Rattle.format.specs.Encoding.{twoBig}
 use Rattle.format.specs.Numbers.{big, little, i32Be, f64sLe}
 use Rattle.format.proofs.LayoutLaws.{sets-append}
-use Rattle.format.proofs.NumberLaws.{length-big, length-little}
+use Rattle.format.proofs.NumberLaws.{length-big, length-little, length-two}
 use Rattle.layouts.proofs.TableLaws.{length-f64sLe}
 
 -- ---- a tail
@@ -52,10 +52,6 @@ tail-stored a xs ys vs h =
 
 -- ---- fields in turn
 
-length-twoBig : (a b : ℕ) → length (twoBig a b) ≡ 8
-unfolding twoBig
-length-twoBig a b = simp (length-append, length-big)
-
 pub two-stored : (out l m : List ℕ) (a b : ℤ) → l ≡ sets out 0 (i32Be a) → m ≡ sets l 4 (i32Be b) → m ≡ sets out 0 (twoBig (ofZ w32 a) (ofZ w32 b))
 unfolding twoBig i32Be
 two-stored out l m a b e f =
@@ -78,7 +74,7 @@ point-stored out l m r xy zs ms h e f g =
 pub record-stored : (out l m r : List ℕ) (a b c : ℕ) (body : List ℕ) → l ≡ sets out 0 (twoBig a b) → m ≡ sets l 8 (little c) → r ≡ sets m 12 body → r ≡ sets out 0 (twoBig a b ++ (little c ++ body))
 record-stored out l m r a b c body e f g =
     let h = twoBig a b in
-    let p : 8 ≡ 0 + length h = omega (arith, length-twoBig a b) in
+    let p : 8 ≡ 0 + length h = omega (arith, length-two a b) in
     let q : 12 ≡ 8 + length (little c) = omega (arith, length-little c) in
     g
     ∙ (rw (f, e) (ap (λ (n : ℕ). sets (sets (sets out 0 h) 8 (little c)) n body) q ∙ sym (sets-append (little c) body (sets out 0 h) 8))

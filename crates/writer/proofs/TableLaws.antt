@@ -10,7 +10,7 @@ use lib.Ieee.{Float}
 use lib.ListN.{length}
 use borrow.Author.Tests.{leb-true, leb-false, eq-eqb, ne-eqb}
 use Rattle.format.specs.declared.kinds.Kind.{Kind}
-use Rattle.layouts.specs.Tables.{sum}
+use Rattle.format.specs.Shapes.{sum}
 use Rattle.writer.specs.declared.judge.TablesJudged.the-variants.{Agree, Disagree}
 use Rattle.writer.specs.Judging.{pointsBy, pointsWithin, tablesJudged}
 

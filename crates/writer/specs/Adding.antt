@@ -11,11 +11,11 @@ use lib.ListN.{length}
 use lib.Seq.{sets}
 use Rattle.format.specs.declared.kinds.Kind.{Kind}
 use Rattle.format.specs.Encoding.{recordBytes, entryBytes, shapeWords}
-use Rattle.format.specs.Kinds.{known, kind}
-use Rattle.format.specs.Lengths.{Form, nothing, onePoint, parts}
+use Rattle.format.specs.Kinds.{known, kind, kindAt, kindOr}
+use Rattle.format.specs.Lengths.{Form, nothing, onePoint, parts, formAt}
 use Rattle.format.specs.Order.{first}
 use Rattle.format.specs.Said.{Said, gives, wrongSize, unknown, notTaken, mismatch, tables, long, roomBytes, unlessRefused}
-use Rattle.format.specs.Shapes.{Shape, null, point, parted}
+use Rattle.format.specs.Shapes.{Shape, null, point, parted, there}
 use Rattle.format.specs.Units.{sameInt}
 use Rattle.header.specs.declared.bbox.BBoxZ.{BBoxZ}
 use Rattle.layouts.specs.Answers.{agree, countsHeld}
@@ -25,7 +25,7 @@ use Rattle.writer.specs.declared.AddAnswer.{AddAnswer}
 use Rattle.writer.specs.declared.AddAnswer.the-variants.{Added, Size, Unknown, NotTaken, Mismatch, Tables, Long, Room}
 use Rattle.writer.specs.declared.Adding.{Adding}
 use Rattle.writer.specs.Boxes.{startBox, grown, ownBox}
-use Rattle.writer.specs.State.{isZero, kindAt, formAt, isSome, stateFine}
+use Rattle.writer.specs.State.{isZero, stateFine}
 
 -- what a caller lends: the kind's code, the box with the ranges, and the tables
 pub record Lent : Type 0 where
@@ -39,11 +39,7 @@ pub record Lent : Type 0 where
 abbrev pub lent : ℤ → BBoxZ → List ℕ → List Float → List Float → List Float → Lent
 lent code b counts xy zs ms = record { code = code; box = b; counts = counts; xy = xy; zs = zs; ms = ms }
 
--- the kind of the code, and its form; what is not in the table is refused before either is used
-abbrev pub kindOr : Option Kind → Kind
-kindOr none = kind 0 false false false
-kindOr (some k) = k
-
+-- the form, and the kind of the code; what is not in the table is refused before either is used
 abbrev pub formOr : Option Form → Form
 formOr none = nothing
 formOr (some form) = form
@@ -111,7 +107,7 @@ abbrev pub addTests : {A : Type 0} → State → Lent → ℕ → ℕ → ℕ �
 addTests s t out start entry =
     (stateFine s, wrongSize 0)
     ∷ (known (t .code), unknown (t .code))
-    ∷ (isSome (formAt (t .code)) && not (isZero (t .code)), notTaken (t .code))
+    ∷ (there (formAt (t .code)) && not (isZero (t .code)), notTaken (t .code))
     ∷ (isZero (s .kind) || sameInt (s .kind) (t .code), mismatch (s .kind) (t .code))
     ∷ (lentAgree t, tables)
     ∷ (heldThen s t, long)

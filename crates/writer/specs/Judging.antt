@@ -11,16 +11,16 @@ use lib.ListN.{length}
 use Rattle.format.specs.declared.kinds.Kind.{Kind}
 use Rattle.format.specs.declared.lengths.Formula.{Formula}
 use Rattle.format.specs.declared.units.Words.{Words}
-use Rattle.format.specs.Kinds.{known}
+use Rattle.format.specs.Kinds.{known, kindAt}
 use Rattle.format.specs.Encoding.{shapeWords}
-use Rattle.format.specs.Lengths.{Form, onePoint, parts, formOf, formula, contentWords}
+use Rattle.format.specs.Lengths.{Form, onePoint, parts, formOf, formula, contentWords, formAt, formulaWords}
 use Rattle.format.specs.Order.{first}
 use Rattle.format.specs.Said.{Said, gives, wrongSize, unknown, notTaken, mismatch, tables, long, roomBytes}
-use Rattle.format.specs.Shapes.{Shape, parted}
+use Rattle.format.specs.Shapes.{Shape, parted, sum, there}
 use Rattle.format.specs.Units.{sameInt}
 use Rattle.header.specs.declared.bbox.BBoxZ.{BBoxZ}
 use Rattle.layouts.specs.Answers.{countsHeld}
-use Rattle.layouts.specs.Tables.{sum, partsOf}
+use Rattle.layouts.specs.Tables.{partsOf}
 use Rattle.writer.specs.declared.State.{State}
 use Rattle.writer.specs.declared.AddAnswer.{AddAnswer}
 use Rattle.writer.specs.declared.AddAnswer.the-variants as AddIs
@@ -38,7 +38,7 @@ use Rattle.writer.specs.declared.judge.Judged.{Judged}
 use Rattle.writer.specs.declared.judge.Judged.the-variants as JudgedIs
 use Rattle.writer.specs.Adding.{Lent, pointShape, lentShape, wordsThen, recordSize, bufferNeeded, lentAgree, heldThen, heldBox, addingOf, saidAdd}
 use Rattle.writer.specs.Boxes.{grown, ownBox}
-use Rattle.writer.specs.State.{isZero, kindAt, formAt, isSome, stateFine}
+use Rattle.writer.specs.State.{isZero, stateFine}
 
 -- ---- numbers and kinds
 
@@ -109,7 +109,7 @@ abbrev pub kindTests : State → ℤ → List (Bool × Said ℕ) → List (Bool 
 kindTests s code more =
     (stateFine s, wrongSize 0)
     ∷ (known code, unknown code)
-    ∷ (isSome (formAt code) && not (isZero code), notTaken code)
+    ∷ (there (formAt code) && not (isZero code), notTaken code)
     ∷ (isZero (s .kind) || sameInt (s .kind) code, mismatch (s .kind) code)
     ∷ more
 
@@ -134,10 +134,6 @@ JudgesKind s code (KindIs.Refused a) = KindRefused s code a
 
 abbrev pub tablesJudged : Kind → List ℕ → List Float → List Float → List Float → TablesJudged
 tablesJudged k counts xy zs ms = cond (agreeBy k counts xy zs ms) (Agree (pointsBy k counts)) Disagree
-
--- the words of a formula with p parts and n points
-abbrev pub formulaWords : Formula → ℕ → ℕ → ℕ
-formulaWords f p n = f .fixed + 2 * p + f .point * n
 
 abbrev pub lengthJudged : ℕ → Formula → ℕ → ℕ → LengthJudged
 lengthJudged words f p n =

@@ -1,14 +1,11 @@
 -- The writer's state: the words written so far, the next record's number, the kind and the box.
-use mathlib.Core.Bool.{Bool, true, false, _&&_, _||_, not}
-use mathlib.Core.Option.{Option, none, some}
+use mathlib.Core.Bool.{Bool, false, _&&_, _||_, not}
 use Prim.Native.Nat.{ℕ, _+_, _*_, _-_}
 use lib.Dec.{leb, eqb}
 use lib.IntN.{ℤ, pos, negsuc, natAbs}
-use lib.ListN.{getElem?}
 use lib.Signed.{nonNeg}
-use Rattle.format.specs.declared.kinds.Kind.{Kind}
-use Rattle.format.specs.Kinds.{kinds, rowOf}
-use Rattle.format.specs.Lengths.{Form, formOf}
+use Rattle.format.specs.Lengths.{formAt}
+use Rattle.format.specs.Shapes.{there}
 use Rattle.writer.specs.declared.State.{State}
 use Rattle.writer.specs.Boxes.{zeroBox}
 
@@ -24,28 +21,12 @@ abbrev pub isZero : ℤ → Bool
 isZero (pos n) = eqb n 0
 isZero (negsuc n) = false
 
--- the kind with this code, and its form
-abbrev pub kindAt : ℤ → Option Kind
-kindAt (pos n) = getElem? kinds (rowOf n kinds)
-kindAt (negsuc n) = none
-
-abbrev pub formAt : ℤ → Option Form
-formAt z = form (kindAt z)
-  where
-    form : Option Kind → Option Form
-    form none = none
-    form (some k) = formOf k
-
-abbrev pub isSome : {A : Type 0} → Option A → Bool
-isSome none = false
-isSome (some a) = true
-
 -- words at least 50 (its type keeps them within i32), number at least 1, a taken kind, words at least 50 + 6(number - 1), and a state of kind 0
 -- is at its start
 unfoldable pub stateFine : State → Bool
 stateFine s =
     atLeast 50 (s .words .0)
     && atLeast 1 (s .number)
-    && isSome (formAt (s .kind))
+    && there (formAt (s .kind))
     && leb (50 + 6 * (natAbs (s .number) - 1)) (natAbs (s .words .0))
     && (not (isZero (s .kind)) || (eqb (natAbs (s .words .0)) 50 && eqb (natAbs (s .number)) 1))

@@ -1,24 +1,22 @@
 -- The shape of tables that agree: its doubles have 64 bits, and what a reader has to say of it is what was lent.
 use mathlib.Core.Path.{_≡_, refl, sym, ap, _∙_}
-use mathlib.Core.Bool.{Bool, true, false, cond, _&&_}
+use mathlib.Core.Bool.{Bool, true, false, cond}
 use mathlib.Core.List.{List, [], _∷_, map}
 use Prim.Native.Nat.{ℕ, zero, suc, _%_, _^_, _≤_, _<_}
 use native.Mathlib.Omega.{arith}
-use lib.Dec.{T, eqb}
+use lib.Dec.{T}
 use lib.Ieee.{Float, binary64, fits}
 use lib.Ieee.Bits.{ofBits-toBits, toBits-lt}
 use lib.ListN.{length, drop, length-drop}
 use lib.Seq.{length-take-le}
-use borrow.Author.Tests.{eqb-true}
-use Rattle.format.specs.declared.kinds.Kind.{Kind}
-use Rattle.format.specs.Shapes.{Point, Covers, OnlyIf}
+use Rattle.format.specs.Bytes.{Fit}
+use Rattle.format.specs.Shapes.{Point, Covers, OnlyIf, sum}
 use Rattle.format.specs.WellFormed.{coordinates}
-use Rattle.layouts.specs.Tables.{sum, bits, pointsOf, splitBy, measureOf}
-use Rattle.readback.specs.Held.{AllHeld, valueHeld, measureHeld}
-use Rattle.readback.specs.ReadBack.{value, valueOr, rangeOf, valuesOf}
-use Rattle.layouts.proofs.TableLaws.{both}
-use Rattle.writer.specs.Adding.{Lent, valueOf, pointAgrees}
+use Rattle.layouts.specs.Tables.{bits, pointsOf, splitBy, measureOf}
+use Rattle.writer.specs.Adding.{valueOf}
 use Rattle.writer.proofs.ShapeLaws.{empty}
+use Rattle.readback.specs.Held.{valueHeld, measureHeld}
+use Rattle.readback.specs.ReadBack.{value, valueOr, rangeOf, valuesOf}
 use Rattle.written.specs.Written.{AllDoubles, rangeIf, valueAt}
 
 -- ---- doubles
@@ -36,7 +34,7 @@ all-back (x ∷ xs) f =
     let rest = all-back xs (f .1) in
     λ i. here i ∷ rest i
 
-pub all-held : (xs : List Float) → AllDoubles xs → AllHeld (map bits xs)
+pub all-held : (xs : List Float) → AllDoubles xs → Fit 8 (map bits xs)
 all-held [] f = tt
 all-held (x ∷ xs) f = (held x (f .0), all-held xs (f .1))
 
@@ -91,25 +89,6 @@ pub double-at : (xs : List Float) (i : ℕ) → AllDoubles xs → i < length xs 
 double-at [] i f h = absurd (omega arith)
 double-at (x ∷ xs) zero f h = f .0
 double-at (x ∷ xs) (suc i) f h = double-at xs i (f .1) (omega arith)
-
-pub record OneAgreed (k : Kind) (t : Lent) : Type 0 where
-  pub xy-has : length (t .xy) ≡ 2
-  pub zs-has : length (t .zs) ≡ cond (k .z) 1 0
-  pub ms-has : length (t .ms) ≡ cond (k .m) 1 0
-
-pub one-agreed : (k : Kind) (t : Lent) → pointAgrees k t ≡ true → OneAgreed k t
-one-agreed k t e =
-    let no-parts = eqb (length (t .counts)) 0 in
-    let xy = eqb (length (t .xy)) 2 in
-    let zs = eqb (length (t .zs)) (cond (k .z) 1 0) in
-    let ms = eqb (length (t .ms)) (cond (k .m) 1 0) in
-    let p = both (no-parts && xy && zs) ms e in
-    let q = both (no-parts && xy) zs (p .0) in
-    record {
-      xy-has = eqb-true (length (t .xy)) 2 (both no-parts xy (q .0) .1);
-      zs-has = eqb-true (length (t .zs)) (cond (k .z) 1 0) (q .1);
-      ms-has = eqb-true (length (t .ms)) (cond (k .m) 1 0) (p .1);
-    }
 
 pub points-one : (xy : List Float) → length xy ≡ 2 → pointsOf xy ≡ record { x = bits (valueAt 0 xy); y = bits (valueAt 1 xy) } ∷ []
 points-one [] e = absurd (omega arith)

@@ -5,6 +5,7 @@ use mathlib.Core.List.{List, map, flatten}
 use mathlib.Core.Option.{Option}
 use Prim.Native.Nat.{ℕ, _≤_}
 use native.Mathlib.Omega.{arith}
+use lib.Dec.{eqb}
 use lib.IntN.{natAbs}
 use lib.ListN.{length}
 use lib.Seq.{drop-at}
@@ -12,21 +13,21 @@ use Rattle.format.specs.Encoding.{twoBig, recordBytes, content, shapeWords}
 use Rattle.format.specs.Lengths.{Form, nothing, onePoint}
 use Rattle.format.specs.Lengths
 use Rattle.format.specs.Said.{gives}
-use Rattle.format.specs.Shapes.{Point, Measure, Parts, Shape, point, parted, there, OfKind}
+use Rattle.format.specs.Shapes.{Point, Measure, Parts, Shape, point, parted, there, OfKind, sum}
 use Rattle.format.specs.WellFormed
+use Rattle.format.proofs.NumberLaws.{length-two}
 use Rattle.multipart.specs.Body.{raised}
 use Rattle.layouts.specs.Steps.{Agreed}
-use Rattle.layouts.specs.Tables.{sum, bits, pointsOf, splitBy, measureOf, partsOf}
+use Rattle.layouts.specs.Tables.{bits, pointsOf, splitBy, measureOf, partsOf}
 use Rattle.layouts.proofs.TableLaws.{agreed, length-points, split-length, split-whole}
-use Rattle.meaning.proofs.Record.{length-two}
+use Rattle.writer.specs.Adding.{Lent, lentKind, lentForm, valueOf, pointShape, lentShape}
+use Rattle.writer.proofs.ShapeLaws.{there-measure, there-value}
 use Rattle.readback.specs.Held.{Held}
 use Rattle.readback.specs.ReadBack.{value, shapedAs, Roomy, StoresShape}
 use Rattle.readback.proofs.ReadsBack.{reads-back}
-use Rattle.writer.specs.Adding.{Lent, lentKind, lentForm, valueOf, pointShape, lentShape}
-use Rattle.writer.proofs.ShapeLaws.{there-measure, there-value}
 use Rattle.written.specs.Written.{Typed, valueAt, shapedBy, Room, TablesIn, written, ReadsWritten}
 use Rattle.written.proofs.Accepted.{Accepted, accepted}
-use Rattle.written.proofs.Tables.{back, held, all-back, all-held, coordinates-are, split-counts, only-if, range-is, measure-held, covers, values-are, double-at, OneAgreed, one-agreed, points-one, value-held, value-is}
+use Rattle.written.proofs.Tables.{back, held, all-back, all-held, coordinates-are, split-counts, only-if, range-is, measure-held, covers, values-are, double-at, points-one, value-held, value-is}
 
 -- what the theorem needs of the shape that was lent, where its form is this one
 record Fine (t : Lent) (form : Form) (s : Shape) : Type 0 where
@@ -45,8 +46,8 @@ module _ (t : Lent) (a : Accepted t) (d : Typed t) where
     abbrev shape : Parts
     shape = partsOf (lentKind t .z) (lentKind t .m) (t .box) (t .counts) (t .xy) (t .zs) (t .ms)
 
-    agree : Agreed (lentKind t .z) (lentKind t .m) (t .counts) (t .xy) (t .zs) (t .ms)
-    agree = agreed (lentKind t .z) (lentKind t .m) (t .counts) (t .xy) (t .zs) (t .ms) (rw form at (a .agree))
+    agree : Agreed (lentKind t .z) (lentKind t .m) (sum (t .counts)) (t .xy) (t .zs) (t .ms)
+    agree = agreed true (lentKind t .z) (lentKind t .m) (sum (t .counts)) (t .xy) (t .zs) (t .ms) (rw form at (a .agree)) .1
 
     points : sum (t .counts) ≡ length (pointsOf (t .xy))
     points = omega (arith, agree .xy-has, length-points (t .xy))
@@ -130,8 +131,8 @@ module _ (t : Lent) (a : Accepted t) (d : Typed t) where
         }
 
   module _ (form : lentForm t ≡ onePoint) where
-    agree-one : OneAgreed (lentKind t) t
-    agree-one = one-agreed (lentKind t) t (rw form at (a .agree))
+    agree-one : Agreed (lentKind t .z) (lentKind t .m) 1 (t .xy) (t .zs) (t .ms)
+    agree-one = agreed (eqb (length (t .counts)) 0) (lentKind t .z) (lentKind t .m) 1 (t .xy) (t .zs) (t .ms) (rw form at (a .agree)) .1
 
     abbrev place : Point
     place = record { x = bits (valueAt 0 (t .xy)); y = bits (valueAt 1 (t .xy)) }

@@ -9,19 +9,20 @@ use lib.Dec.{T}
 use lib.Ieee.{Float, binary64, fits, ofInt}
 use lib.IntN.{pos}
 use lib.ListN.{length, getD, drop}
+use Rattle.format.specs.Kinds.{kindAt}
 use Rattle.format.specs.Lengths.{Form, nothing, onePoint, parts}
 use Rattle.format.specs.Said.{gives}
+use Rattle.format.specs.Shapes.{sum}
 use Rattle.header.specs.RoundTrip.{Doubles}
-use Rattle.layouts.specs.Tables.{sum}
 use Rattle.multipart.specs.declared.Body.{Body}
 use Rattle.multipart.specs.declared.Range.{Range}
 use Rattle.multipart.specs.Body.{noRange, raised, countsIn, xyIn, zIn, mIn}
-use Rattle.readback.specs.ReadBack.{Small, size}
-use Rattle.record.specs.declared.Wanted.the-variants as Wants
-use Rattle.record.specs.Reading
-use Rattle.record.specs.Reading.{Shaped, nullShape, pointShape, partsShape, codeIn, kindAt}
 use Rattle.writer.specs.declared.State.{State}
 use Rattle.writer.specs.Adding.{Lent, lentKind, lentForm, lentShape, recordOf, addingOf}
+use Rattle.record.specs.declared.Wanted.the-variants as Wants
+use Rattle.record.specs.Reading
+use Rattle.record.specs.Reading.{Shaped, nullShape, pointShape, partsShape, codeIn}
+use Rattle.readback.specs.ReadBack.{Small, size}
 
 -- each value that was lent is a double, as its type says
 abbrev pub AllDoubles : List Float → Type 0

@@ -1,19 +1,19 @@
-use Rattle.format.specs.Numbers.{beI32}
+use mathlib.Core.Path.{_≡_, _∙_}
 use mir.Syntax.{w32}
-use Rattle.format.proofs.SignLaws.{back}
+use mir.Val.{toZ}
 use borrow.Author.Needs.{needs}
+use Rattle.format.specs.Bytes.{be, field}
+use Rattle.format.specs.Numbers.{beI32}
+use Rattle.format.proofs.SignLaws.{back}
 use Rattle.fields.proofs.be_i32_at.Statement.{statement}
 use Rattle.fields.proofs.be_i32_at.Tie as tie
 
-be-number-requires : tie.Need-be-number-requires
-be-number-requires c κs = search needs
-
-signed-requires : tie.Need-signed-requires
-signed-requires c κs = search needs
-
 returns : tie.Need-returns
 unfolding beI32
-returns c = cc (back w32 (c .signed .result) (c .signed .ok))
+returns c =
+    let a = c .before .before .before .args in
+    let e : c .signed .result ≡ toZ w32 (be (field 4 (a .at) (a .s .now))) = cc in
+    back w32 (c .signed .result) (c .signed .ok) ∙ e
 
 pub be-i32-at-spec : {M : Type 1} → statement M
-be-i32-at-spec = tie.close (tie.spec be-number-requires signed-requires returns)
+be-i32-at-spec = tie.close (tie.spec (λ c κs. search needs) (λ c κs. search needs) returns)

@@ -11,8 +11,5 @@ float-to-bits-result c = same-no-nan (c .before .args .x) (c .if1 .left)
 returns : tie.Need-returns
 returns c = sym (ap (toBits binary64) (differs-nan (c .before .args .x) (c .if1 .taken)) ∙ nan-bits)
 
-returns-2 : tie.Need-returns-2
-returns-2 c = search needs
-
 pub bits-spec : {M : Type 1} → statement M
-bits-spec = tie.close (tie.spec float-to-bits-result returns returns-2)
+bits-spec = tie.close (tie.spec float-to-bits-result returns (λ c. search needs))

@@ -11,8 +11,5 @@ float-from-bits-result c = no-nan-pattern binary64 (c .before .args .n) (c .if1 
 returns : tie.Need-returns
 returns c = zero-by-zero ∙ sym (nan-pattern binary64 (c .before .args .n) (c .if1 .taken))
 
-returns-2 : tie.Need-returns-2
-returns-2 c = search needs
-
 pub double-spec : {M : Type 1} → statement M
-double-spec = tie.close (tie.spec float-from-bits-result returns returns-2)
+double-spec = tie.close (tie.spec float-from-bits-result returns (λ c. search needs))

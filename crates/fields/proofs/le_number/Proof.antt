@@ -21,28 +21,13 @@ loop-holds c =
     let z : c .before .args .k - c .before .args .k ≡ 0 = omega arith in
     rw z (omega arith, refl, lit< tt)
 
-sub-i : tie.Need-sub-i Inv-loop μ-loop
-sub-i c = omega arith
-
 mul-n : tie.Need-mul-n Inv-loop μ-loop
 mul-n c = omega (arith, turn-fits (c .before .before .before .args .k - c .before .loop .i) {b = 0} (omega arith) (c .before .loop .inv .2) (omega arith))
-
-add-wide : tie.Need-add-wide Inv-loop μ-loop
-add-wide c = omega arith
-
-shared-slice-read-wide : tie.Need-shared-slice-read-wide Inv-loop μ-loop
-shared-slice-read-wide c = omega arith
-
-wide-requires : tie.Need-wide-requires Inv-loop μ-loop
-wide-requires c κs = search needs
 
 add-n : tie.Need-add-n Inv-loop μ-loop
 add-n c =
     let l = c .before .before .before in
     record { fits = turn-fits (l .before .before .args .k - l .loop .i) (omega arith) (l .loop .inv .2) (c .wide .ensures .1) }
-
-loop-less : tie.Need-loop-less Inv-loop μ-loop
-loop-less c = omega arith
 
 loop-again : tie.Need-loop-again Inv-loop μ-loop
 loop-again c =
@@ -66,12 +51,12 @@ le-number-spec =
     Inv-loop
     μ-loop
     loop-holds
-    sub-i
+    (λ c. omega arith)
     mul-n
-    add-wide
-    shared-slice-read-wide
-    wide-requires
+    (λ c. omega arith)
+    (λ c. omega arith)
+    (λ c κs. search needs)
     add-n
-    loop-less
+    (λ c. omega arith)
     loop-again
     returns)

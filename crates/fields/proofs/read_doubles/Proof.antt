@@ -22,27 +22,6 @@ loop-holds c =
     let a = c .before .before .args in
     (omega arith, refl, rw (sub-zero, add-zero) (sets-all _ _ (length-doublesAt (length (a .out .now)) (a .at) (a .s .now))))
 
-mul-le-f64-at : tie.Need-mul-le-f64-at Inv-loop μ-loop
-mul-le-f64-at c = omega arith
-
-add-le-f64-at : tie.Need-add-le-f64-at Inv-loop μ-loop
-add-le-f64-at c = omega arith
-
-le-f64-at-requires : tie.Need-le-f64-at-requires Inv-loop μ-loop
-le-f64-at-requires c κs = omega arith
-
-mul-out : tie.Need-mul-out Inv-loop μ-loop
-mul-out c = omega arith
-
-slice-write-out : tie.Need-slice-write-out Inv-loop μ-loop
-slice-write-out c = omega arith
-
-add-i : tie.Need-add-i Inv-loop μ-loop
-add-i c = omega arith
-
-loop-less : tie.Need-loop-less Inv-loop μ-loop
-loop-less c = omega arith
-
 loop-again : tie.Need-loop-again Inv-loop μ-loop
 loop-again c =
     let l = c .before .before .loop in
@@ -51,9 +30,6 @@ loop-again c =
       simp length-set (l .inv .1),
       rw (c .le-f64-at .ensures) (read-turn (l .out) (length (a .out .now)) (a .at) (l .i) (a .s .now) (omega arith) ∙ l .inv .2),
     )
-
-same-length : tie.Need-same-length Inv-loop μ-loop
-same-length c = omega arith
 
 returns : tie.Need-returns Inv-loop μ-loop
 unfolding doublesAt
@@ -69,13 +45,13 @@ read-doubles-spec =
     Inv-loop
     μ-loop
     loop-holds
-    mul-le-f64-at
-    add-le-f64-at
-    le-f64-at-requires
-    mul-out
-    slice-write-out
-    add-i
-    loop-less
+    (λ c. omega arith)
+    (λ c. omega arith)
+    (λ c κs. omega arith)
+    (λ c. omega arith)
+    (λ c. omega arith)
+    (λ c. omega arith)
+    (λ c. omega arith)
     loop-again
-    same-length
+    (λ c. omega arith)
     returns)

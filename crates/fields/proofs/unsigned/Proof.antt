@@ -42,5 +42,4 @@ returns-2 c =
     rw (toZ-pos w32 _ h) (refl, omega arith)
 
 pub unsigned-spec : {M : Type 1} → statement M
-unsigned-spec =
-    tie.close (tie.spec cast-result sub-result cast-result-2 returns returns-2)
+unsigned-spec = tie.close (tie.spec cast-result sub-result cast-result-2 returns returns-2)

@@ -20,27 +20,6 @@ abbrev μ-loop : tie.MeasureT-loop
 loop-holds : tie.Need-loop-holds Inv-loop μ-loop
 loop-holds c = (omega arith, refl, rw add-zero)
 
-mul-x : tie.Need-mul-x Inv-loop μ-loop
-mul-x c = omega arith
-
-shared-slice-read-x : tie.Need-shared-slice-read-x Inv-loop μ-loop
-shared-slice-read-x c = omega arith
-
-mul-put-le-f64 : tie.Need-mul-put-le-f64 Inv-loop μ-loop
-mul-put-le-f64 c = omega arith
-
-add-put-le-f64 : tie.Need-add-put-le-f64 Inv-loop μ-loop
-add-put-le-f64 c = omega arith
-
-put-le-f64-requires : tie.Need-put-le-f64-requires Inv-loop μ-loop
-put-le-f64-requires c κs = omega arith
-
-add-i : tie.Need-add-i Inv-loop μ-loop
-add-i c = omega arith
-
-loop-less : tie.Need-loop-less Inv-loop μ-loop
-loop-less c = omega arith
-
 loop-again : tie.Need-loop-again Inv-loop μ-loop
 loop-again c =
     let p = c .before .before .put-le-f64 in
@@ -50,9 +29,6 @@ loop-again c =
       p .kept .0 ∙ t .loop .inv .1,
       rw (p .ensures) (write-turn (t .loop .out) (a .at) (t .loop .i) (a .xs .now) _ (omega arith) ∙ t .loop .inv .2),
     )
-
-same-length : tie.Need-same-length Inv-loop μ-loop
-same-length c = omega arith
 
 returns : tie.Need-returns Inv-loop μ-loop
 unfolding f64sLe flatten
@@ -69,13 +45,13 @@ write-doubles-spec =
     Inv-loop
     μ-loop
     loop-holds
-    mul-x
-    shared-slice-read-x
-    mul-put-le-f64
-    add-put-le-f64
-    put-le-f64-requires
-    add-i
-    loop-less
+    (λ c. omega arith)
+    (λ c. omega arith)
+    (λ c. omega arith)
+    (λ c. omega arith)
+    (λ c κs. omega arith)
+    (λ c. omega arith)
+    (λ c. omega arith)
     loop-again
-    same-length
+    (λ c. omega arith)
     returns)

@@ -9,15 +9,6 @@ use Rattle.format.specs.Kinds.{known, isKind, kindOf}
 use Rattle.header.proofs.header_bytes.Statement.{statement}
 use Rattle.header.proofs.header_bytes.Tie as tie
 
-find-kind-requires : tie.Need-find-kind-requires
-find-kind-requires c κs = search needs
-
-enum-told : tie.Need-enum-told
-enum-told c = search needs
-
-enum-told-2 : tie.Need-enum-told-2
-enum-told-2 c = search needs
-
 fits : (c : tie.Start) → SFits w32 (c .args .h .«shape_type»)
 fits c = search needs
 
@@ -33,9 +24,6 @@ returns c =
     let e = kind-is f ∙ ap isKind (c .before .enum-told2 .given .1) in
     rw (toZ-ofZ w32 _ (fits (f .before .before))) (record { says = rw e; bytes = rw e })
 
-whole-bytes-requires : tie.Need-whole-bytes-requires
-whole-bytes-requires c κs = search needs
-
 returns-2 : tie.Need-returns-2
 returns-2 c =
     let f = c .before .before .before in
@@ -45,4 +33,10 @@ returns-2 c =
 pub header-bytes-spec : {M : Type 1} → statement M
 header-bytes-spec =
     tie.close
-    (tie.spec find-kind-requires enum-told enum-told-2 returns whole-bytes-requires returns-2)
+    (tie.spec
+    (λ c κs. search needs)
+    (λ c. search needs)
+    (λ c. search needs)
+    returns
+    (λ c κs. search needs)
+    returns-2)

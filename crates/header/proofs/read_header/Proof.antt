@@ -102,9 +102,6 @@ at8 c =
 returns : tie.Need-returns
 returns c = refused (s0 (c .before)) 0 (start (s0 (c .before))) (lt-leb 4 _ (c .if1 .taken))
 
-be-i32-at-requires : tie.Need-be-i32-at-requires
-be-i32-at-requires c κs = search needs
-
 returns-2 : tie.Need-returns-2
 returns-2 c =
     let r = c .before .be-i32-at in
@@ -117,9 +114,6 @@ returns-3 c = refused (s2 (c .before)) 2 (at2 (c .before)) (lt-leb 24 _ (c .if3 
 returns-4 : tie.Need-returns-4
 returns-4 c = refused (s3 (c .before)) 3 (at3 (c .before)) (lt-leb 28 _ (c .if4 .taken))
 
-be-i32-at-requires-2 : tie.Need-be-i32-at-requires-2
-be-i32-at-requires-2 c κs = search needs
-
 returns-5 : tie.Need-returns-5
 returns-5 c =
     refused (s4 (c .before .before)) 4 (at4 (c .before .before))
@@ -128,23 +122,8 @@ returns-5 c =
 returns-6 : tie.Need-returns-6
 returns-6 c = refused (s5 (c .before)) 5 (at5 (c .before)) (lt-leb 32 _ (c .if6 .taken))
 
-le-i32-at-requires : tie.Need-le-i32-at-requires
-le-i32-at-requires c κs = search needs
-
 returns-7 : tie.Need-returns-7
 returns-7 c = refused (s6 (c .before .before)) 6 (at6 (c .before .before)) (lt-leb 36 _ (c .if7 .taken))
-
-le-i32-at-requires-2 : tie.Need-le-i32-at-requires-2
-le-i32-at-requires-2 c κs = search needs
-
-find-kind-requires : tie.Need-find-kind-requires
-find-kind-requires c κs = search needs
-
-enum-told : tie.Need-enum-told
-enum-told c = search needs
-
-enum-told-2 : tie.Need-enum-told-2
-enum-told-2 c = search needs
 
 returns-8 : tie.Need-returns-8
 returns-8 c =
@@ -153,17 +132,8 @@ returns-8 c =
     ap unknown (back w32 (r .result) (r .ok) ∙ r .ensures)
     ∙ refused (s8 f) 7 (at7 (f .before .before)) (kind-is f ∙ ap isKind (c .enum-told2 .given .1))
 
-mul-t12 : tie.Need-mul-t12
-mul-t12 c = search needs
-
-add-t13 : tie.Need-add-t13
-add-t13 c = search needs
-
 returns-9 : tie.Need-returns-9
 returns-9 c = cut (s9 (c .before)) (at8 (c .before)) (omega arith) (c .if8 .taken)
-
-box-at-requires : tie.Need-box-at-requires
-box-at-requires c κs = search needs
 
 returns-10 : tie.Need-returns-10
 returns-10 c =
@@ -184,22 +154,22 @@ read-header-spec =
     tie.close
     (tie.spec
     returns
-    be-i32-at-requires
+    (λ c κs. search needs)
     returns-2
     returns-3
     returns-4
-    be-i32-at-requires-2
+    (λ c κs. search needs)
     returns-5
     returns-6
-    le-i32-at-requires
+    (λ c κs. search needs)
     returns-7
-    le-i32-at-requires-2
-    find-kind-requires
-    enum-told
-    enum-told-2
+    (λ c κs. search needs)
+    (λ c κs. search needs)
+    (λ c. search needs)
+    (λ c. search needs)
     returns-8
-    mul-t12
-    add-t13
+    (λ c. search needs)
+    (λ c. search needs)
     returns-9
-    box-at-requires
+    (λ c κs. search needs)
     returns-10)

@@ -17,36 +17,6 @@ use Rattle.header.specs.Writing.{bytesOf}
 use Rattle.header.proofs.whole_bytes.Statement.{statement}
 use Rattle.header.proofs.whole_bytes.Tie as tie
 
-slice-aggregate-put-be-i32 : tie.Need-slice-aggregate-put-be-i32
-slice-aggregate-put-be-i32 c = search needs
-
-put-be-i32-requires : tie.Need-put-be-i32-requires
-put-be-i32-requires c κs = search needs
-
-slice-aggregate-put-be-i32-2 : tie.Need-slice-aggregate-put-be-i32-2
-slice-aggregate-put-be-i32-2 c = search needs
-
-put-be-i32-requires-2 : tie.Need-put-be-i32-requires-2
-put-be-i32-requires-2 c κs = search needs
-
-slice-aggregate-put-le-i32 : tie.Need-slice-aggregate-put-le-i32
-slice-aggregate-put-le-i32 c = search needs
-
-put-le-i32-requires : tie.Need-put-le-i32-requires
-put-le-i32-requires c κs = search needs
-
-slice-aggregate-put-le-i32-2 : tie.Need-slice-aggregate-put-le-i32-2
-slice-aggregate-put-le-i32-2 c = search needs
-
-put-le-i32-requires-2 : tie.Need-put-le-i32-requires-2
-put-le-i32-requires-2 c κs = search needs
-
-slice-aggregate-put-box : tie.Need-slice-aggregate-put-box
-slice-aggregate-put-box c = search needs
-
-put-box-requires : tie.Need-put-box-requires
-put-box-requires c κs = search needs
-
 -- ---- what stands in the array after each call, of the header at entry
 
 abbrev e1 : tie.After-put-be-i32 → tie.Start
@@ -113,14 +83,14 @@ pub whole-bytes-spec : {M : Type 1} → statement M
 whole-bytes-spec =
     tie.close
     (tie.spec
-    slice-aggregate-put-be-i32
-    put-be-i32-requires
-    slice-aggregate-put-be-i32-2
-    put-be-i32-requires-2
-    slice-aggregate-put-le-i32
-    put-le-i32-requires
-    slice-aggregate-put-le-i32-2
-    put-le-i32-requires-2
-    slice-aggregate-put-box
-    put-box-requires
+    (λ c. search needs)
+    (λ c κs. search needs)
+    (λ c. search needs)
+    (λ c κs. search needs)
+    (λ c. search needs)
+    (λ c κs. search needs)
+    (λ c. search needs)
+    (λ c κs. search needs)
+    (λ c. search needs)
+    (λ c κs. search needs)
     returns)

@@ -9,27 +9,12 @@ use Rattle.layouts.proofs.JudgeLaws.{placed}
 use Rattle.layouts.proofs.write_body.Statement.{statement}
 use Rattle.layouts.proofs.write_body.Tie as tie
 
-judge-body-requires : tie.Need-judge-body-requires
-judge-body-requires c κs = search needs
-
 abbrev e0 : tie.After-judge-body → tie.Start
 e0 c = c .before .before .before .before .before .before
 
 -- what was judged of the tables, by the arm
 judged : (c : tie.After-judge-body) (r : LayoutAnswer) → c .judge-body .result ≡ r → saidLayout r ≡ layoutOf (e0 c .args .z) (e0 c .args .m) (e0 c .args .counts .now) (e0 c .args .xy .now) (e0 c .args .zs .now) (e0 c .args .ms .now) (length (e0 c .args .out .now))
 judged c r e = ap saidLayout (sym e) ∙ c .judge-body .ensures
-
-enum-told : tie.Need-enum-told
-enum-told c = search needs
-
-enum-told-2 : tie.Need-enum-told-2
-enum-told-2 c = search needs
-
-enum-known-size : tie.Need-enum-known-size
-enum-known-size c = search needs
-
-enum-known-size-2 : tie.Need-enum-known-size-2
-enum-known-size-2 c = search needs
 
 put-body-requires : tie.Need-put-body-requires
 put-body-requires c κs = placed _ _ _ _ _ _ _ _ (judged (c .before .before .before .before) (Written _) (c .before .before .size2 .given .1))
@@ -43,9 +28,6 @@ returns-2 c = record { says = judged (c .before .before) Long (c .enum-told2 .gi
 returns-3 : tie.Need-returns-3
 returns-3 c = record { says = judged (c .before .before .before) (Room _) (c .before .size .given .1); out-is = refl }
 
-same-length : tie.Need-same-length
-same-length c = search needs
-
 returns-4 : tie.Need-returns-4
 returns-4 c = record { says = judged (c .before .before .before .before .before .before .before) (Written _) (c .before .before .before .before .before .size2 .given .1); out-is = c .before .before .put-body .ensures }
 
@@ -53,14 +35,14 @@ pub write-body-spec : {M : Type 1} → statement M
 write-body-spec =
     tie.close
     (tie.spec
-    judge-body-requires
-    enum-told
-    enum-told-2
-    enum-known-size
-    enum-known-size-2
+    (λ c κs. search needs)
+    (λ c. search needs)
+    (λ c. search needs)
+    (λ c. search needs)
+    (λ c. search needs)
     put-body-requires
     returns
     returns-2
     returns-3
-    same-length
+    (λ c. search needs)
     returns-4)

@@ -17,21 +17,6 @@ e1 c = c .before .before .before .before .before .before
 told : (c : tie.After-read-counts) (r : CountsAnswer) → c .read-counts .result ≡ r → saidCounts r ≡ countsOf (e1 c .args .s .now)
 told c r e = ap saidCounts (sym e) ∙ c .read-counts .ensures
 
-read-counts-requires : tie.Need-read-counts-requires
-read-counts-requires c κs = search needs
-
-enum-known-at : tie.Need-enum-known-at
-enum-known-at c = search needs
-
-enum-known-at-2 : tie.Need-enum-known-at-2
-enum-known-at-2 c = search needs
-
-enum-known-p : tie.Need-enum-known-p
-enum-known-p c = search needs
-
-cast-read-rest : tie.Need-cast-read-rest
-cast-read-rest c = search needs
-
 read-rest-requires : tie.Need-read-rest-requires
 read-rest-requires c κs =
     let k = c .before .before .before .before .before .p .given in
@@ -59,35 +44,20 @@ returns-2 c =
       m-are = refl;
     }
 
-same-length : tie.Need-same-length
-same-length c = search needs
-
-same-length-2 : tie.Need-same-length-2
-same-length-2 c = search needs
-
-same-length-3 : tie.Need-same-length-3
-same-length-3 c = search needs
-
-same-length-4 : tie.Need-same-length-4
-same-length-4 c = search needs
-
-returns-3 : tie.Need-returns-3
-returns-3 c = search needs
-
 pub read-body-spec : {M : Type 1} → statement M
 read-body-spec =
     tie.close
     (tie.spec
-    read-counts-requires
-    enum-known-at
-    enum-known-at-2
-    enum-known-p
-    cast-read-rest
+    (λ c κs. search needs)
+    (λ c. search needs)
+    (λ c. search needs)
+    (λ c. search needs)
+    (λ c. search needs)
     read-rest-requires
     returns
     returns-2
-    same-length
-    same-length-2
-    same-length-3
-    same-length-4
-    returns-3)
+    (λ c. search needs)
+    (λ c. search needs)
+    (λ c. search needs)
+    (λ c. search needs)
+    (λ c. search needs))

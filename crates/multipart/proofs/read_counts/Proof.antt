@@ -64,23 +64,14 @@ at8 c = past (s5 c) 7 (at7 (c .before)) (nonNeg-yes (leI32 36 (s5 c)) (n-sign (c
 
 -- ---- each answer
 
-mul-t7 : tie.Need-mul-t7
-mul-t7 c = search needs
-
 returns : tie.Need-returns
 returns c = box-cut (c .before .before .args .s .now) (c .if1 .taken)
 
 returns-2 : tie.Need-returns-2
 returns-2 c = refused (s1 (c .before)) 4 (at4 (c .before)) (lt-leb 36 _ (c .if2 .taken))
 
-le-i32-at-requires : tie.Need-le-i32-at-requires
-le-i32-at-requires c κs = search needs
-
 returns-3 : tie.Need-returns-3
 returns-3 c = refused (s2 (c .before .before)) 5 (at5 (c .before .before)) (lt-leb 40 _ (c .if3 .taken))
-
-le-i32-at-requires-2 : tie.Need-le-i32-at-requires-2
-le-i32-at-requires-2 c κs = search needs
 
 returns-4 : tie.Need-returns-4
 returns-4 c =
@@ -112,12 +103,12 @@ pub read-counts-spec : {M : Type 1} → statement M
 read-counts-spec =
     tie.close
     (tie.spec
-    mul-t7
+    (λ c. search needs)
     returns
     returns-2
-    le-i32-at-requires
+    (λ c κs. search needs)
     returns-3
-    le-i32-at-requires-2
+    (λ c κs. search needs)
     returns-4
     returns-5
     cast-t8

@@ -22,24 +22,6 @@ told c r e = subst (λ (w : Walk). RestWalk (e1 c .args .z) (e1 c .args .m) (e1 
 on : (c : tie.After-known-told3) → RestWalk (e1 (c .before .before .before) .args .z) (e1 (c .before .before .before) .args .m) (e1 (c .before .before .before) .args .s .now) (On (c .before .points .given .0 .0))
 on c = told (c .before .before .before) (On (c .before .points .given .0 .0)) (c .before .points .given .1)
 
-le-i32-at-requires : tie.Need-le-i32-at-requires
-le-i32-at-requires c κs = search needs
-
-judge-rest-requires : tie.Need-judge-rest-requires
-judge-rest-requires c κs = search needs
-
-enum-known-at : tie.Need-enum-known-at
-enum-known-at c = search needs
-
-enum-known-at-2 : tie.Need-enum-known-at-2
-enum-known-at-2 c = search needs
-
-enum-known-points : tie.Need-enum-known-points
-enum-known-points c = search needs
-
-has-room-requires : tie.Need-has-room-requires
-has-room-requires c κs = search needs
-
 store-body-requires : tie.Need-store-body-requires
 store-body-requires c κs =
     let p = c .before .before .before .before .before .before in
@@ -75,18 +57,6 @@ returns-2 c =
       m-are = refl;
     }
 
-same-length : tie.Need-same-length
-same-length c = search needs
-
-same-length-2 : tie.Need-same-length-2
-same-length-2 c = search needs
-
-same-length-3 : tie.Need-same-length-3
-same-length-3 c = search needs
-
-same-length-4 : tie.Need-same-length-4
-same-length-4 c = search needs
-
 returns-3 : tie.Need-returns-3
 returns-3 c =
     let p = c .before .before .before .before .before .before .before .before .before .before .before .before .before .before .before in
@@ -121,18 +91,18 @@ pub read-rest-spec : {M : Type 1} → statement M
 read-rest-spec =
     tie.close
     (tie.spec
-    le-i32-at-requires
-    judge-rest-requires
-    enum-known-at
-    enum-known-at-2
-    enum-known-points
-    has-room-requires
+    (λ c κs. search needs)
+    (λ c κs. search needs)
+    (λ c. search needs)
+    (λ c. search needs)
+    (λ c. search needs)
+    (λ c κs. search needs)
     store-body-requires
     returns
     returns-2
-    same-length
-    same-length-2
-    same-length-3
-    same-length-4
+    (λ c. search needs)
+    (λ c. search needs)
+    (λ c. search needs)
+    (λ c. search needs)
     returns-3
     returns-4)

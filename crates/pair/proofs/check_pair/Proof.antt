@@ -5,16 +5,13 @@ use Prim.Native.Nat.{ℕ}
 use borrow.Author.Needs.{needs}
 use Rattle.format.specs.Said.{Said}
 use Rattle.format.proofs.ByteLaws.{AllBytes, all-bytes}
+use Rattle.rules.specs.Meaning.{Judged}
+use Rattle.rules.specs.Rules.{Counts}
 use Rattle.meaning.specs.Consequences.{Says}
 use Rattle.meaning.proofs.Consequences.{says}
 use Rattle.meaning.proofs.Theorem.{judged}
-use Rattle.rules.specs.Meaning.{Judged}
-use Rattle.rules.specs.Rules.{Counts}
 use Rattle.pair.proofs.check_pair.Statement.{statement}
 use Rattle.pair.proofs.check_pair.Tie as tie
-
-judge-requires : tie.Need-judge-requires
-judge-requires c κs = search needs
 
 returns : tie.Need-returns
 returns c =
@@ -30,4 +27,4 @@ returns c =
     }
 
 pub check-pair-spec : {M : Type 1} → statement M
-check-pair-spec = tie.close (tie.spec judge-requires returns)
+check-pair-spec = tie.close (tie.spec (λ c κs. search needs) returns)

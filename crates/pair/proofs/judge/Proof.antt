@@ -11,9 +11,6 @@ use Rattle.pair.proofs.VerdictLaws.{by-front, both-long, by-kind, by-ba
 use Rattle.pair.proofs.judge.Statement.{statement}
 use Rattle.pair.proofs.judge.Tie as tie
 
-front-fault-requires : tie.Need-front-fault-requires
-front-fault-requires c κs = search needs
-
 returns : tie.Need-returns
 returns c = by-front _ _ (c .before .front-fault .result) (c .before .front-fault .ensures) (c .if1 .taken)
 
@@ -31,12 +28,6 @@ known c = one-taken _ (plan-of c) (sym (c .before .before .before .plan-in .ensu
 
 plan-in-requires : tie.Need-plan-in-requires
 plan-in-requires c κs = both-long _ _ (fine c) .0
-
-enum-known-plan : tie.Need-enum-known-plan
-enum-known-plan c = search needs
-
-enum-told : tie.Need-enum-told
-enum-told c = search needs
 
 returns-2 : tie.Need-returns-2
 returns-2 c = by-kind _ _ (fine (c .before .before .before)) (none-taken _ (sym (c .before .before .plan-in .ensures) ∙ c .enum-told .given .1))
@@ -70,11 +61,11 @@ pub judge-spec : {M : Type 1} → statement M
 judge-spec =
     tie.close
     (tie.spec
-    front-fault-requires
+    (λ c κs. search needs)
     returns
     plan-in-requires
-    enum-known-plan
-    enum-told
+    (λ c. search needs)
+    (λ c. search needs)
     returns-2
     back-fault-requires
     returns-3

@@ -210,14 +210,8 @@ walk-holds c =
       rest = refl;
     }
 
-add-k : tie.Need-add-k Inv-parts μ-parts Inv-rings μ-rings Inv-front μ-front Inv-doubles μ-doubles Inv-walk μ-walk
-add-k c = search needs
-
 head-fault-requires : tie.Need-head-fault-requires Inv-parts μ-parts Inv-rings μ-rings Inv-front μ-front Inv-doubles μ-doubles Inv-walk μ-walk
 head-fault-requires c κs = (c .before .before .before .before .pre .0, c .before .walk .inv .low, c .before .walk .inv .xlow)
-
-add-big : tie.Need-add-big Inv-parts μ-parts Inv-rings μ-rings Inv-front μ-front Inv-doubles μ-doubles Inv-walk μ-walk
-add-big c = search needs
 
 big-requires : tie.Need-big-requires Inv-parts μ-parts Inv-rings μ-rings Inv-front μ-front Inv-doubles μ-doubles Inv-walk μ-walk
 big-requires c κs =
@@ -239,9 +233,6 @@ add-start c = omega (arith, small (c .before .before .before .before .before .be
 parts-holds : tie.Need-parts-holds Inv-parts μ-parts Inv-rings μ-rings Inv-front μ-front Inv-doubles μ-doubles Inv-walk μ-walk
 parts-holds c = (refl, omega arith, omega arith, refl)
 
-sub-left : tie.Need-sub-left Inv-parts μ-parts Inv-rings μ-rings Inv-front μ-front Inv-doubles μ-doubles Inv-walk μ-walk
-sub-left c = search needs
-
 end-of-requires : tie.Need-end-of-requires Inv-parts μ-parts Inv-rings μ-rings Inv-front μ-front Inv-doubles μ-doubles Inv-walk μ-walk
 end-of-requires c κs =
     let f = fitted (c .before .before .before .before) in
@@ -254,9 +245,6 @@ add-start-2 : tie.Need-add-start-2 Inv-parts μ-parts Inv-rings μ-rings Inv-fro
 add-start-2 c =
     let f = fitted (c .before .before .before .before .before .before .before) in
     omega (arith, part-room (c .before .before .before), f .held, c .before .before .before .before .parts .inv .0, small (c .before .before .before .before .before .before .before .before .before .before .before .before))
-
-parts-less : tie.Need-parts-less Inv-parts μ-parts Inv-rings μ-rings Inv-front μ-front Inv-doubles μ-doubles Inv-walk μ-walk
-parts-less c = search needs
 
 parts-again : tie.Need-parts-again Inv-parts μ-parts Inv-rings μ-rings Inv-front μ-front Inv-doubles μ-doubles Inv-walk μ-walk
 parts-again c =
@@ -282,9 +270,6 @@ add-pairs-2 c = omega (arith, small (c .before .before .before .before .before .
 add-next : tie.Need-add-next Inv-parts μ-parts Inv-rings μ-rings Inv-front μ-front Inv-doubles μ-doubles Inv-walk μ-walk
 add-next c = omega (arith, small (c .before .before .before .before .before .before .before .before .before))
 
-rings-in-requires : tie.Need-rings-in-requires Inv-parts μ-parts Inv-rings μ-rings Inv-front μ-front Inv-doubles μ-doubles Inv-walk μ-walk
-rings-in-requires c κs = search needs
-
 rings-holds : tie.Need-rings-holds Inv-parts μ-parts Inv-rings μ-rings Inv-front μ-front Inv-doubles μ-doubles Inv-walk μ-walk
 rings-holds c =
     let k = c .before .before .before .before .before in
@@ -294,9 +279,6 @@ rings-holds c =
       rw (c .rings-in .ensures) (long-rings (r .rings) (shp-of (turn k)) (n-of k) (r .least) (turn k .walk .at + 56) 0 (p-of k) (lengthy (c .before))),
       refl,
     )
-
-sub-rings : tie.Need-sub-rings Inv-parts μ-parts Inv-rings μ-rings Inv-front μ-front Inv-doubles μ-doubles Inv-walk μ-walk
-sub-rings c = search needs
 
 end-of-requires-2 : tie.Need-end-of-requires-2 Inv-parts μ-parts Inv-rings μ-rings Inv-front μ-front Inv-doubles μ-doubles Inv-walk μ-walk
 end-of-requires-2 c κs =
@@ -313,9 +295,6 @@ add-next-2 : tie.Need-add-next-2 Inv-parts μ-parts Inv-rings μ-rings Inv-front
 add-next-2 c =
     let f = fitted (c .before .before .before .before .before .before .before .before .before .before) in
     omega (arith, few (c .before .before .before), f .few-parts, f .held, c .before .before .before .before .rings .inv .0, small (c .before .before .before .before .before .before .before .before .before .before .before .before .before .before .before))
-
-rings-less : tie.Need-rings-less Inv-parts μ-parts Inv-rings μ-rings Inv-front μ-front Inv-doubles μ-doubles Inv-walk μ-walk
-rings-less c = search needs
 
 rings-again : tie.Need-rings-again Inv-parts μ-parts Inv-rings μ-rings Inv-front μ-front Inv-doubles μ-doubles Inv-walk μ-walk
 rings-again c =
@@ -343,16 +322,10 @@ is-finite-requires c κs =
     let f = fitted (c .before .before .before .before .before .before .before .before .before .before) in
     omega (arith, f .within, f .in-front, c .before .before .front-doubles .ensures, c .before .front .inv .0, c .front-test .taken)
 
-sub-fronts : tie.Need-sub-fronts Inv-parts μ-parts Inv-rings μ-rings Inv-front μ-front Inv-doubles μ-doubles Inv-walk μ-walk
-sub-fronts c = search needs
-
 add-front-2 : tie.Need-add-front-2 Inv-parts μ-parts Inv-rings μ-rings Inv-front μ-front Inv-doubles μ-doubles Inv-walk μ-walk
 add-front-2 c =
     let f = fitted (c .before .before .before .before .before .before .before .before .before .before .before .before) in
     omega (arith, f .in-front, f .held, c .before .before .before .before .front-doubles .ensures, c .before .before .before .front .inv .0, small (c .before .before .before .before .before .before .before .before .before .before .before .before .before .before .before .before .before))
-
-front-less : tie.Need-front-less Inv-parts μ-parts Inv-rings μ-rings Inv-front μ-front Inv-doubles μ-doubles Inv-walk μ-walk
-front-less c = search needs
 
 front-again : tie.Need-front-again Inv-parts μ-parts Inv-rings μ-rings Inv-front μ-front Inv-doubles μ-doubles Inv-walk μ-walk
 front-again c =
@@ -371,16 +344,10 @@ is-finite-requires-2 c κs =
     let f = fitted (c .before .before .before .before .before .before .before .before .before .before .before .before .before) in
     omega (arith, f .within, double-room c, c .before .doubles .inv .0, c .doubles-test .taken)
 
-sub-doubles : tie.Need-sub-doubles Inv-parts μ-parts Inv-rings μ-rings Inv-front μ-front Inv-doubles μ-doubles Inv-walk μ-walk
-sub-doubles c = search needs
-
 add-double : tie.Need-add-double Inv-parts μ-parts Inv-rings μ-rings Inv-front μ-front Inv-doubles μ-doubles Inv-walk μ-walk
 add-double c =
     let f = fitted (c .before .before .before .before .before .before .before .before .before .before .before .before .before .before .before) in
     omega (arith, double-room (c .before .before), f .held, c .before .before .before .doubles .inv .0, small (c .before .before .before .before .before .before .before .before .before .before .before .before .before .before .before .before .before .before .before .before))
-
-doubles-less : tie.Need-doubles-less Inv-parts μ-parts Inv-rings μ-rings Inv-front μ-front Inv-doubles μ-doubles Inv-walk μ-walk
-doubles-less c = search needs
 
 doubles-again : tie.Need-doubles-again Inv-parts μ-parts Inv-rings μ-rings Inv-front μ-front Inv-doubles μ-doubles Inv-walk μ-walk
 doubles-again c =
@@ -496,47 +463,47 @@ walk-spec =
     Inv-walk
     μ-walk
     walk-holds
-    add-k
+    (λ c. search needs)
     head-fault-requires
-    add-big
+    (λ c. search needs)
     big-requires
     parts-at-requires
     points-at-requires
     begins-requires
     add-start
     parts-holds
-    sub-left
+    (λ c. search needs)
     end-of-requires
     add-if5
     add-start-2
-    parts-less
+    (λ c. search needs)
     parts-again
     add-pairs
     mul-pairs
     add-pairs-2
     add-next
-    rings-in-requires
+    (λ c κs. search needs)
     rings-holds
-    sub-rings
+    (λ c. search needs)
     end-of-requires-2
     closed-requires
     add-next-2
-    rings-less
+    (λ c. search needs)
     rings-again
     add-front
     front-doubles-requires
     front-holds
     is-finite-requires
-    sub-fronts
+    (λ c. search needs)
     add-front-2
-    front-less
+    (λ c. search needs)
     front-again
     back-doubles-requires
     doubles-holds
     is-finite-requires-2
-    sub-doubles
+    (λ c. search needs)
     add-double
-    doubles-less
+    (λ c. search needs)
     doubles-again
     in-bytes-requires
     add-at

@@ -15,15 +15,6 @@ e1 c = c .before .before .before .before .before .before
 told : (c : tie.After-judge-front) (r : Front) → c .judge-front .result ≡ r → Fronts (frontTests (e1 c .args .wanted) (e1 c .args .size) (e1 c .args .s .now)) (e1 c .args .size) (e1 c .args .s .now) r
 told c r e = subst (λ (x : Front). Fronts (frontTests (e1 c .args .wanted) (e1 c .args .size) (e1 c .args .s .now)) (e1 c .args .size) (e1 c .args .s .now) x) e (c .judge-front .ensures)
 
-judge-front-requires : tie.Need-judge-front-requires
-judge-front-requires c κs = search needs
-
-enum-known-r : tie.Need-enum-known-r
-enum-known-r c = search needs
-
-enum-known-k : tie.Need-enum-known-k
-enum-known-k c = search needs
-
 read-shape-requires : tie.Need-read-shape-requires
 read-shape-requires c κs =
     let g = c .before .before .before .before .before .k .given in
@@ -34,18 +25,6 @@ returns c =
     let j = c .before .before .before in
     let a = e1 j in
     refused (a .args .wanted) (a .args .size) (a .args .s .now) (a .args .counts .now) (a .args .xy .now) (a .args .zs .now) (a .args .ms .now) _ (told j (FrontIs.Refused (c .before .r .given .0 .0)) (c .before .r .given .1))
-
-same-length : tie.Need-same-length
-same-length c = search needs
-
-same-length-2 : tie.Need-same-length-2
-same-length-2 c = search needs
-
-same-length-3 : tie.Need-same-length-3
-same-length-3 c = search needs
-
-same-length-4 : tie.Need-same-length-4
-same-length-4 c = search needs
 
 returns-2 : tie.Need-returns-2
 returns-2 c =
@@ -59,13 +38,13 @@ pub read-record-spec : {M : Type 1} → statement M
 read-record-spec =
     tie.close
     (tie.spec
-    judge-front-requires
-    enum-known-r
-    enum-known-k
+    (λ c κs. search needs)
+    (λ c. search needs)
+    (λ c. search needs)
     read-shape-requires
     returns
-    same-length
-    same-length-2
-    same-length-3
-    same-length-4
+    (λ c. search needs)
+    (λ c. search needs)
+    (λ c. search needs)
+    (λ c. search needs)
     returns-2)

@@ -29,18 +29,6 @@ returns c =
     let a = c .before .before .before .before .before .before .before in
     null-shape (a .args .k) (a .args .size) (a .args .s .now) (a .args .counts .now) (a .args .xy .now) (a .args .zs .now) (a .args .ms .now) (null-form (a .args .k) (a .args .l) (a .pre .lengths-are) (c .if1 .taken))
 
-le-i32-at-requires : tie.Need-le-i32-at-requires
-le-i32-at-requires c κs = search needs
-
-sub-read-parts : tie.Need-sub-read-parts
-sub-read-parts c = search needs
-
-part-read-parts-start : tie.Need-part-read-parts-start
-part-read-parts-start c = search needs
-
-part-read-parts-end : tie.Need-part-read-parts-end
-part-read-parts-end c = search needs
-
 read-parts-requires : tie.Need-read-parts-requires
 read-parts-requires c κs =
     let r = c .before .before .before .before .before .before in
@@ -52,18 +40,6 @@ read-point-requires c κs =
     let r = c .before in
     let a = e1 r in
     (a .pre .long, a .pre .held, code-back r, point-form (a .args .k) (a .args .l) (a .pre .lengths-are) (r .before .if1 .left) (c .if2 .left) .1)
-
-same-length : tie.Need-same-length
-same-length c = search needs
-
-same-length-2 : tie.Need-same-length-2
-same-length-2 c = search needs
-
-same-length-3 : tie.Need-same-length-3
-same-length-3 c = search needs
-
-same-length-4 : tie.Need-same-length-4
-same-length-4 c = search needs
 
 returns-2 : tie.Need-returns-2
 returns-2 c =
@@ -82,15 +58,15 @@ read-shape-spec =
     tie.close
     (tie.spec
     returns
-    le-i32-at-requires
-    sub-read-parts
-    part-read-parts-start
-    part-read-parts-end
+    (λ c κs. search needs)
+    (λ c. search needs)
+    (λ c. search needs)
+    (λ c. search needs)
     read-parts-requires
     read-point-requires
-    same-length
-    same-length-2
-    same-length-3
-    same-length-4
+    (λ c. search needs)
+    (λ c. search needs)
+    (λ c. search needs)
+    (λ c. search needs)
     returns-2
     returns-3)

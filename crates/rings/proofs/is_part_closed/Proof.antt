@@ -1,6 +1,6 @@
 -- `rings::is_part_closed` meets its contract: a run with a point is closed just where the two comparisons of its ends pass.
-use mathlib.Core.Path.{_≡_, _∙_}
-use mathlib.Core.Bool.{Bool, true, false}
+use mathlib.Core.Path.{_≡_, ap₂, _∙_}
+use mathlib.Core.Bool.{Bool, true, false, _&&_}
 use borrow.Author.Needs.{needs}
 use Rattle.format.specs.Said.{gives}
 use Rattle.rings.specs.Answers.{closedOf}
@@ -19,30 +19,6 @@ returns-2 c =
     let xy = c .before .before .args .xy .now in
     closed-is xy false (c .before .if1 .left) (none-closed xy (c .if2 .taken))
 
-shared-slice-read-if3 : tie.Need-shared-slice-read-if3
-shared-slice-read-if3 c = search needs
-
-sub-if3 : tie.Need-sub-if3
-sub-if3 c = search needs
-
-mul-if3 : tie.Need-mul-if3
-mul-if3 c = search needs
-
-shared-slice-read-if3-2 : tie.Need-shared-slice-read-if3-2
-shared-slice-read-if3-2 c = search needs
-
-shared-slice-read-if4 : tie.Need-shared-slice-read-if4
-shared-slice-read-if4 c = search needs
-
-sub-if4 : tie.Need-sub-if4
-sub-if4 c = search needs
-
-mul-if4 : tie.Need-mul-if4
-mul-if4 c = search needs
-
-shared-slice-read-if4-2 : tie.Need-shared-slice-read-if4-2
-shared-slice-read-if4-2 c = search needs
-
 -- the run has an even number of coordinates, and a point: what the comparisons come to
 compared : (c : tie.Else2) (b : Bool) → sameEnds (c .before .before .args .xy .now) ≡ b → gives b ≡ closedOf (c .before .before .args .xy .now)
 compared c b e =
@@ -52,12 +28,12 @@ compared c b e =
 returns-3 : tie.Need-returns-3
 returns-3 c =
     let d = c .before .before .before in
-    compared (d .before .before .before) true (rw (d .if3 .taken, c .if4 .taken))
+    compared (d .before .before .before) true (ap₂ _&&_ (d .if3 .taken) (c .if4 .taken))
 
 returns-4 : tie.Need-returns-4
 returns-4 c =
     let d = c .before .before .before in
-    compared (d .before .before .before) false (rw (d .if3 .taken, c .if4 .left))
+    compared (d .before .before .before) false (ap₂ _&&_ (d .if3 .taken) (c .if4 .left))
 
 returns-5 : tie.Need-returns-5
 returns-5 c = compared (c .before .before .before) false (rw (c .if3 .left))
@@ -68,14 +44,14 @@ is-part-closed-spec =
     (tie.spec
     returns
     returns-2
-    shared-slice-read-if3
-    sub-if3
-    mul-if3
-    shared-slice-read-if3-2
-    shared-slice-read-if4
-    sub-if4
-    mul-if4
-    shared-slice-read-if4-2
+    (λ c. search needs)
+    (λ c. search needs)
+    (λ c. search needs)
+    (λ c. search needs)
+    (λ c. search needs)
+    (λ c. search needs)
+    (λ c. search needs)
+    (λ c. search needs)
     returns-3
     returns-4
     returns-5)

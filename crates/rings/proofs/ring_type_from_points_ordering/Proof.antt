@@ -5,10 +5,11 @@ use Prim.Native.Nat.{_-_, _%_, _≤_}
 use native.Mathlib.Omega.{arith}
 use lib.Ieee.{Float}
 use lib.ListN.{drop}
+use Rattle.format.proofs.NumberLaws.{zero-bits}
 use Rattle.rings.specs.Answers.{turningOf}
 use Rattle.rings.specs.Points.{points, number, products, plus, turning}
 use Rattle.rings.proofs.AnswerLaws.{odd-run, turning-is}
-use Rattle.rings.proofs.PointLaws.{sum-turn, sum-end, zero-bits}
+use Rattle.rings.proofs.PointLaws.{sum-turn, sum-end}
 use Rattle.rings.proofs.ring_type_from_points_ordering.Statement.{statement}
 use Rattle.rings.proofs.ring_type_from_points_ordering.Tie as tie
 
@@ -25,45 +26,6 @@ returns c = odd-run turning (c .before .args .xy .now) (c .if1 .taken)
 
 loop-holds : tie.Need-loop-holds Inv-loop μ-loop
 loop-holds c = (omega arith, refl, ap (λ (x : Float). plus x (products (points (c .before .args .xy .now)))) zero-bits)
-
-add-loop : tie.Need-add-loop Inv-loop μ-loop
-add-loop c = omega arith
-
-add-next : tie.Need-add-next Inv-loop μ-loop
-add-next c = omega arith
-
-mul-sum : tie.Need-mul-sum Inv-loop μ-loop
-mul-sum c = omega arith
-
-shared-slice-read-sum : tie.Need-shared-slice-read-sum Inv-loop μ-loop
-shared-slice-read-sum c = omega arith
-
-mul-sum-2 : tie.Need-mul-sum-2 Inv-loop μ-loop
-mul-sum-2 c = omega arith
-
-shared-slice-read-sum-2 : tie.Need-shared-slice-read-sum-2 Inv-loop μ-loop
-shared-slice-read-sum-2 c = omega arith
-
-add-sum : tie.Need-add-sum Inv-loop μ-loop
-add-sum c = omega arith
-
-mul-sum-3 : tie.Need-mul-sum-3 Inv-loop μ-loop
-mul-sum-3 c = omega arith
-
-shared-slice-read-sum-3 : tie.Need-shared-slice-read-sum-3 Inv-loop μ-loop
-shared-slice-read-sum-3 c = omega arith
-
-add-sum-2 : tie.Need-add-sum-2 Inv-loop μ-loop
-add-sum-2 c = omega arith
-
-mul-sum-4 : tie.Need-mul-sum-4 Inv-loop μ-loop
-mul-sum-4 c = omega arith
-
-shared-slice-read-sum-4 : tie.Need-shared-slice-read-sum-4 Inv-loop μ-loop
-shared-slice-read-sum-4 c = omega arith
-
-loop-less : tie.Need-loop-less Inv-loop μ-loop
-loop-less c = omega arith
 
 loop-again : tie.Need-loop-again Inv-loop μ-loop
 loop-again c =
@@ -91,19 +53,19 @@ ring-type-from-points-ordering-spec =
     μ-loop
     returns
     loop-holds
-    add-loop
-    add-next
-    mul-sum
-    shared-slice-read-sum
-    mul-sum-2
-    shared-slice-read-sum-2
-    add-sum
-    mul-sum-3
-    shared-slice-read-sum-3
-    add-sum-2
-    mul-sum-4
-    shared-slice-read-sum-4
-    loop-less
+    (λ c. omega arith)
+    (λ c. omega arith)
+    (λ c. omega arith)
+    (λ c. omega arith)
+    (λ c. omega arith)
+    (λ c. omega arith)
+    (λ c. omega arith)
+    (λ c. omega arith)
+    (λ c. omega arith)
+    (λ c. omega arith)
+    (λ c. omega arith)
+    (λ c. omega arith)
+    (λ c. omega arith)
     loop-again
     returns-2
     returns-3)

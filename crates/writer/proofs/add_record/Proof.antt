@@ -53,23 +53,11 @@ refused c =
     let a = s .args in
     subst (Judges (a .state) (lent-of s) (length (a .out .now)) (a .start) (length (a .entry .now))) (c .answer .given .1) (judged (c .before .before))
 
-judge-requires : tie.Need-judge-requires
-judge-requires c κs = search needs
-
-enum-known-answer : tie.Need-enum-known-answer
-enum-known-answer c = search needs
-
-enum-known-k : tie.Need-enum-known-k
-enum-known-k c = search needs
-
 sub-put-record : tie.Need-sub-put-record
 sub-put-record c = starts _ _ _ _ _ _ _ _ (passed (c .before .before .before))
 
 part-put-record-start : tie.Need-part-put-record-start
 part-put-record-start c = starts _ _ _ _ _ _ _ _ (passed (c .before .before .before))
-
-part-put-record-end : tie.Need-part-put-record-end
-part-put-record-end c = search needs
 
 put-record-requires : tie.Need-put-record-requires
 put-record-requires c κs =
@@ -91,12 +79,6 @@ returns : tie.Need-returns
 returns c =
     let s = start-of (c .before .before .before) in
     adds-refused (s .args .state) (lent-of s) (s .args .out .now) (s .args .start) (s .args .entry .now) _ (refused (c .before))
-
-same-length : tie.Need-same-length
-same-length c = search needs
-
-same-length-2 : tie.Need-same-length-2
-same-length-2 c = search needs
 
 returns-2 : tie.Need-returns-2
 returns-2 c =
@@ -124,16 +106,16 @@ pub add-record-spec : {M : Type 1} → statement M
 add-record-spec =
     tie.close
     (tie.spec
-    judge-requires
-    enum-known-answer
-    enum-known-k
+    (λ c κs. search needs)
+    (λ c. search needs)
+    (λ c. search needs)
     sub-put-record
     part-put-record-start
-    part-put-record-end
+    (λ c. search needs)
     put-record-requires
     put-two-requires
     next-state-requires
     returns
-    same-length
-    same-length-2
+    (λ c. search needs)
+    (λ c. search needs)
     returns-2)

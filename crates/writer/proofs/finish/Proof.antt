@@ -31,23 +31,11 @@ number-fits c = search needs
 kind-fits : (c : tie.Start) → SFits w32 (c .args .s .kind)
 kind-fits c = search needs
 
-state-fine-requires : tie.Need-state-fine-requires
-state-fine-requires c κs = search needs
-
-settle-requires : tie.Need-settle-requires
-settle-requires c κs = search needs
-
-header-bytes-requires : tie.Need-header-bytes-requires
-header-bytes-requires c κs = search needs
-
 index-words-requires : tie.Need-index-words-requires
 index-words-requires c κs =
     let t = c .before .before .before .before .before .before in
     let a = t .before .before in
     rw (toZ-ofZ w32 _ (number-fits a)) (index-lt (a .args .s) (fine-at t) (words-fit a .sfits))
-
-header-bytes-requires-2 : tie.Need-header-bytes-requires-2
-header-bytes-requires-2 c κs = search needs
 
 returns : tie.Need-returns
 unfolding shpHeader shxHeader
@@ -74,10 +62,10 @@ pub finish-spec : {M : Type 1} → statement M
 finish-spec =
     tie.close
     (tie.spec
-    state-fine-requires
-    settle-requires
-    header-bytes-requires
+    (λ c κs. search needs)
+    (λ c κs. search needs)
+    (λ c κs. search needs)
     index-words-requires
-    header-bytes-requires-2
+    (λ c κs. search needs)
     returns
     returns-2)

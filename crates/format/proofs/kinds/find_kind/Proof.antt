@@ -20,9 +20,6 @@ returns c =
 cast-row-of : tie.Need-cast-row-of
 cast-row-of c = casts (c .before .args .code) (c .before .fits .code) (c .if1 .left)
 
-row-of-requires : tie.Need-row-of-requires
-row-of-requires c κs = search needs
-
 -- what the search was asked: the code is not negative, and its row is found
 not-neg : (c : tie.After-row-of) → ltZ (c .before .before .args .code) (pos 0) ≡ false
 not-neg c =
@@ -33,12 +30,6 @@ row-is : (c : tie.After-row-of) → c .row-of .result ≡ rowOf (natAbs (c .befo
 row-is c =
     let a = c .before .before in
     c .row-of .ensures .0 ∙ ap (λ (z : ℤ). rowOf (natAbs z) kinds) (toZ-ofZ w32 (a .args .code) (a .fits .code))
-
-mul-t21 : tie.Need-mul-t21
-mul-t21 c = search needs
-
-array-copy-out-t24 : tie.Need-array-copy-out-t24
-array-copy-out-t24 c = search needs
 
 returns-2 : tie.Need-returns-2
 unfolding kinds
@@ -52,4 +43,11 @@ returns-3 c = kind-out _ (not-neg (c .before)) (c .before .row-of .result) (row-
 pub find-kind-spec : {M : Type 1} → statement M
 find-kind-spec =
     tie.close
-    (tie.spec returns cast-row-of row-of-requires mul-t21 array-copy-out-t24 returns-2 returns-3)
+    (tie.spec
+    returns
+    cast-row-of
+    (λ c κs. search needs)
+    (λ c. search needs)
+    (λ c. search needs)
+    returns-2
+    returns-3)

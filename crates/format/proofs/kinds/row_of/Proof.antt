@@ -18,24 +18,12 @@ abbrev μ-loop : tie.MeasureT-loop
 loop-holds : tie.Need-loop-holds Inv-loop μ-loop
 loop-holds c = (omega arith, zero-add _)
 
-mul-k : tie.Need-mul-k Inv-loop μ-loop
-mul-k c = omega arith
-
-array-copy-out-k : tie.Need-array-copy-out-k Inv-loop μ-loop
-array-copy-out-k c = omega arith
-
 returns : tie.Need-returns Inv-loop μ-loop
 unfolding kinds
 returns c =
     let l = c .before .before .before .before in
     let e : rowOf (l .before .args .code) (drop (l .loop .i) kinds) ≡ 0 = row-here (l .before .args .code) kinds _ (l .loop .i) (omega arith) (c .if1 .taken) in
     (omega arith, omega arith)
-
-add-i : tie.Need-add-i Inv-loop μ-loop
-add-i c = omega arith
-
-loop-less : tie.Need-loop-less Inv-loop μ-loop
-loop-less c = omega arith
 
 loop-again : tie.Need-loop-again Inv-loop μ-loop
 unfolding kinds
@@ -58,10 +46,10 @@ row-of-spec =
     Inv-loop
     μ-loop
     loop-holds
-    mul-k
-    array-copy-out-k
+    (λ c. omega arith)
+    (λ c. omega arith)
     returns
-    add-i
-    loop-less
+    (λ c. omega arith)
+    (λ c. omega arith)
     loop-again
     returns-2)

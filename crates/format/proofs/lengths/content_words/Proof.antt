@@ -13,26 +13,11 @@ use Rattle.format.proofs.lengths.content_words.Tie as tie
 product : (c : tie.Start) → c .args .f .point * c .args .n < 2 ^ 48
 product c = small-product (search needs) (search needs)
 
-cast-words : tie.Need-cast-words
-cast-words c = search needs
-
-mul-words : tie.Need-mul-words
-mul-words c = search needs
-
-add-words : tie.Need-add-words
-add-words c = search needs
-
-cast-words-2 : tie.Need-cast-words-2
-cast-words-2 c = search needs
-
 mul-words-2 : tie.Need-mul-words-2
 mul-words-2 c = omega (arith, product (c .before .before))
 
 add-words-2 : tie.Need-add-words-2
 add-words-2 c = omega (arith, product (c .before .before))
-
-cast-t14 : tie.Need-cast-t14
-cast-t14 c = search needs
 
 returns : tie.Need-returns
 unfolding counted
@@ -46,12 +31,12 @@ pub content-words-spec : {M : Type 1} → statement M
 content-words-spec =
     tie.close
     (tie.spec
-    cast-words
-    mul-words
-    add-words
-    cast-words-2
+    (λ c. search needs)
+    (λ c. search needs)
+    (λ c. search needs)
+    (λ c. search needs)
     mul-words-2
     add-words-2
-    cast-t14
+    (λ c. search needs)
     returns
     returns-2)

@@ -4,15 +4,6 @@ use Rattle.format.proofs.LengthLaws.{contents, content-in, content-out}
 use Rattle.format.proofs.lengths.lengths_of.Statement.{statement}
 use Rattle.format.proofs.lengths.lengths_of.Tie as tie
 
-row-of-requires : tie.Need-row-of-requires
-row-of-requires c κs = search needs
-
-mul-result : tie.Need-mul-result
-mul-result c = search needs
-
-array-copy-out-result : tie.Need-array-copy-out-result
-array-copy-out-result c = search needs
-
 returns : tie.Need-returns
 unfolding contents
 returns c =
@@ -24,4 +15,4 @@ returns-2 c = content-out _ (c .before .row-of .result) (c .before .row-of .ensu
 
 pub lengths-of-spec : {M : Type 1} → statement M
 lengths-of-spec =
-    tie.close (tie.spec row-of-requires mul-result array-copy-out-result returns returns-2)
+    tie.close (tie.spec (λ c κs. search needs) (λ c. search needs) (λ c. search needs) returns returns-2)

@@ -11,9 +11,6 @@ use Rattle.format.specs.Numbers.{i32Be}
 use Rattle.header.proofs.entries.index_entry_bytes.Statement.{statement}
 use Rattle.header.proofs.entries.index_entry_bytes.Tie as tie
 
-two-bytes-requires : tie.Need-two-bytes-requires
-two-bytes-requires c κs = search needs
-
 first-fits : (c : tie.Start) → SFits w32 (c .args .e .offset .0)
 first-fits c = search needs
 
@@ -28,4 +25,4 @@ returns c =
     ∙ ap₂ (λ (x y : ℤ). i32Be x ++ i32Be y) (toZ-ofZ w32 _ (first-fits a)) (toZ-ofZ w32 _ (second-fits a))
 
 pub index-entry-bytes-spec : {M : Type 1} → statement M
-index-entry-bytes-spec = tie.close (tie.spec two-bytes-requires returns)
+index-entry-bytes-spec = tie.close (tie.spec (λ c κs. search needs) returns)

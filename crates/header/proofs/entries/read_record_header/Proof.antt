@@ -14,12 +14,6 @@ returns c = cut-first recordHeader _ (c .if1 .taken)
 returns-2 : tie.Need-returns-2
 returns-2 c = cut-second recordHeader _ (c .before .if1 .left) (c .if2 .taken)
 
-be-i32-at-requires : tie.Need-be-i32-at-requires
-be-i32-at-requires c κs = search needs
-
-be-i32-at-requires-2 : tie.Need-be-i32-at-requires-2
-be-i32-at-requires-2 c κs = search needs
-
 returns-3 : tie.Need-returns-3
 returns-3 c =
     let a = c .before .be-i32-at in
@@ -28,4 +22,4 @@ returns-3 c =
 
 pub read-record-header-spec : {M : Type 1} → statement M
 read-record-header-spec =
-    tie.close (tie.spec returns returns-2 be-i32-at-requires be-i32-at-requires-2 returns-3)
+    tie.close (tie.spec returns returns-2 (λ c κs. search needs) (λ c κs. search needs) returns-3)

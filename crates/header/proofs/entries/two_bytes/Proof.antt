@@ -13,18 +13,6 @@ use Rattle.format.specs.Numbers.{big, i32Be}
 use Rattle.header.proofs.entries.two_bytes.Statement.{statement}
 use Rattle.header.proofs.entries.two_bytes.Tie as tie
 
-slice-aggregate-put-be-i32 : tie.Need-slice-aggregate-put-be-i32
-slice-aggregate-put-be-i32 c = search needs
-
-put-be-i32-requires : tie.Need-put-be-i32-requires
-put-be-i32-requires c κs = search needs
-
-slice-aggregate-put-be-i32-2 : tie.Need-slice-aggregate-put-be-i32-2
-slice-aggregate-put-be-i32-2 c = search needs
-
-put-be-i32-requires-2 : tie.Need-put-be-i32-requires-2
-put-be-i32-requires-2 c κs = search needs
-
 returns : tie.Need-returns
 unfolding i32Be big beBytes leBytes
 returns c =
@@ -40,8 +28,8 @@ pub two-bytes-spec : {M : Type 1} → statement M
 two-bytes-spec =
     tie.close
     (tie.spec
-    slice-aggregate-put-be-i32
-    put-be-i32-requires
-    slice-aggregate-put-be-i32-2
-    put-be-i32-requires-2
+    (λ c. search needs)
+    (λ c κs. search needs)
+    (λ c. search needs)
+    (λ c κs. search needs)
     returns)

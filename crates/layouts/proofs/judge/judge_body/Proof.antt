@@ -7,8 +7,8 @@ use borrow.Author.Needs.{needs}
 use borrow.Author.Tests.{not-true, not-false}
 use lib.Dec.{eqb}
 use lib.ListN.{length}
+use Rattle.format.specs.Shapes.{sum}
 use Rattle.layouts.specs.Answers.{bodySize}
-use Rattle.layouts.specs.Tables.{sum}
 use Rattle.layouts.proofs.BodyLaws.{size-is, size-most}
 use Rattle.layouts.proofs.JudgeLaws.{odd, other-sum, other-z, other-m, long-parts, long-points, no-room, has-room}
 use Rattle.layouts.proofs.judge.judge_body.Statement.{statement}
@@ -49,22 +49,13 @@ sized c = rw (c .before .measure-size .ensures, c .measure-size2 .ensures) (size
 returns : tie.Need-returns
 returns c = odd _ _ _ _ _ _ _ (c .if1 .taken)
 
-sums-to-requires : tie.Need-sums-to-requires
-sums-to-requires c κs = search needs
-
 returns-2 : tie.Need-returns-2
 returns-2 c = other-sum _ _ _ _ _ _ _ (sym (c .before .sums-to .ensures) ∙ not-true _ (c .if2 .taken))
-
-holds-requires : tie.Need-holds-requires
-holds-requires c κs = search needs
 
 returns-3 : tie.Need-returns-3
 returns-3 c =
     let t = c .before .before in
     other-z _ _ _ _ _ _ _ (even t) (sums t) (sym (c .before .holds .ensures) ∙ not-true _ (c .if3 .taken))
-
-holds-requires-2 : tie.Need-holds-requires-2
-holds-requires-2 c κs = search needs
 
 returns-4 : tie.Need-returns-4
 returns-4 c =
@@ -83,28 +74,10 @@ returns-6 c =
     let t = f .before .before in
     long-points _ _ _ _ _ _ _ (even (t .before .before)) (sums (t .before .before)) (has-z t) (has-m f) (omega arith) (c .if6 .taken)
 
-mul-size : tie.Need-mul-size
-mul-size c = search needs
-
-add-size : tie.Need-add-size
-add-size c = search needs
-
-mul-size-2 : tie.Need-mul-size-2
-mul-size-2 c = search needs
-
-add-size-2 : tie.Need-add-size-2
-add-size-2 c = search needs
-
-measure-size-requires : tie.Need-measure-size-requires
-measure-size-requires c κs = search needs
-
 add-size-3 : tie.Need-add-size-3
 add-size-3 c =
     let a = e4 (c .before .before .before) .args in
     omega (arith, size-most (a .z) (length (a .xy .now) / 2))
-
-measure-size-requires-2 : tie.Need-measure-size-requires-2
-measure-size-requires-2 c κs = search needs
 
 add-size-4 : tie.Need-add-size-4
 add-size-4 c =
@@ -128,21 +101,21 @@ judge-body-spec =
     tie.close
     (tie.spec
     returns
-    sums-to-requires
+    (λ c κs. search needs)
     returns-2
-    holds-requires
+    (λ c κs. search needs)
     returns-3
-    holds-requires-2
+    (λ c κs. search needs)
     returns-4
     returns-5
     returns-6
-    mul-size
-    add-size
-    mul-size-2
-    add-size-2
-    measure-size-requires
+    (λ c. search needs)
+    (λ c. search needs)
+    (λ c. search needs)
+    (λ c. search needs)
+    (λ c κs. search needs)
     add-size-3
-    measure-size-requires-2
+    (λ c κs. search needs)
     add-size-4
     returns-7
     returns-8)

@@ -5,7 +5,7 @@ use native.Mathlib.Omega.{arith}
 use lib.Dec.{eqb}
 use lib.ListN.{length, drop}
 use lib.Seq.{drop-length}
-use Rattle.layouts.specs.Tables.{sum}
+use Rattle.format.specs.Shapes.{sum}
 use Rattle.layouts.proofs.Turns.{down-turn, down-past}
 use Rattle.layouts.proofs.judge.sums_to.Statement.{statement}
 use Rattle.layouts.proofs.judge.sums_to.Tie as tie
@@ -19,12 +19,6 @@ abbrev μ-loop : tie.MeasureT-loop
 loop-holds : tie.Need-loop-holds Inv-loop μ-loop
 loop-holds c = (omega arith, refl)
 
-mul-count : tie.Need-mul-count Inv-loop μ-loop
-mul-count c = omega arith
-
-shared-slice-read-count : tie.Need-shared-slice-read-count Inv-loop μ-loop
-shared-slice-read-count c = omega arith
-
 cast-count : tie.Need-cast-count Inv-loop μ-loop
 cast-count c = omega (arith, c .shared-slice-known .given (c .before .before .loop .i))
 
@@ -32,12 +26,6 @@ returns : tie.Need-returns Inv-loop μ-loop
 returns c =
     let l = c .before .before .before .loop in
     down-past _ (l .left) (l .i) (omega arith) (c .if1 .taken) ∙ l .inv .1
-
-add-i : tie.Need-add-i Inv-loop μ-loop
-add-i c = omega arith
-
-loop-less : tie.Need-loop-less Inv-loop μ-loop
-loop-less c = omega arith
 
 loop-again : tie.Need-loop-again Inv-loop μ-loop
 loop-again c =
@@ -57,11 +45,11 @@ sums-to-spec =
     Inv-loop
     μ-loop
     loop-holds
-    mul-count
-    shared-slice-read-count
+    (λ c. omega arith)
+    (λ c. omega arith)
     cast-count
     returns
-    add-i
-    loop-less
+    (λ c. omega arith)
+    (λ c. omega arith)
     loop-again
     returns-2)

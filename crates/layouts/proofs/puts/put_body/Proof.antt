@@ -4,8 +4,8 @@ use Prim.Native.Nat.{ℕ, _+_, _*_, _/_, _≤_}
 use native.Mathlib.Omega.{arith}
 use borrow.Author.Needs.{needs}
 use lib.ListN.{length}
+use Rattle.format.specs.Shapes.{sum}
 use Rattle.layouts.specs.Steps.{measureSize}
-use Rattle.layouts.specs.Tables.{sum}
 use Rattle.layouts.proofs.BodyLaws.{size-is, same-size, body-stored}
 use Rattle.layouts.proofs.puts.put_body.Statement.{statement}
 use Rattle.layouts.proofs.puts.put_body.Tie as tie
@@ -31,21 +31,6 @@ z-size c = same-size (c .args .z) _ _ (rw (points c) (c .pre .agreed .zs-has))
 m-size : (c : tie.Start) → measureSize (c .args .m) (length (c .args .ms .now)) ≡ measureSize (c .args .m) (n-of c)
 m-size c = same-size (c .args .m) _ _ (rw (points c) (c .pre .agreed .ms-has))
 
-mul-xy-at : tie.Need-mul-xy-at
-mul-xy-at c = search needs
-
-add-xy-at : tie.Need-add-xy-at
-add-xy-at c = search needs
-
-mul-z-at : tie.Need-mul-z-at
-mul-z-at c = search needs
-
-add-z-at : tie.Need-add-z-at
-add-z-at c = search needs
-
-measure-size-requires : tie.Need-measure-size-requires
-measure-size-requires c κs = search needs
-
 add-m-at : tie.Need-add-m-at
 add-m-at c = omega (arith, room (e1 c))
 
@@ -69,9 +54,6 @@ put-measure-requires-2 c κs =
     let a = e1 (c .before .before .before .before .before .before .before .before .before .before .before .before .before) in
     omega (arith, room a, m-size a)
 
-same-length : tie.Need-same-length
-same-length c = search needs
-
 returns : tie.Need-returns
 returns c =
     let p = c .before .before in
@@ -89,15 +71,15 @@ pub put-body-spec : {M : Type 1} → statement M
 put-body-spec =
     tie.close
     (tie.spec
-    mul-xy-at
-    add-xy-at
-    mul-z-at
-    add-z-at
-    measure-size-requires
+    (λ c. search needs)
+    (λ c. search needs)
+    (λ c. search needs)
+    (λ c. search needs)
+    (λ c κs. search needs)
     add-m-at
     put-front-requires
     write-doubles-requires
     put-measure-requires
     put-measure-requires-2
-    same-length
+    (λ c. search needs)
     returns)

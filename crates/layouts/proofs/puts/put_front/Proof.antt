@@ -5,24 +5,6 @@ use Rattle.layouts.proofs.BodyLaws.{front-stored}
 use Rattle.layouts.proofs.puts.put_front.Statement.{statement}
 use Rattle.layouts.proofs.puts.put_front.Tie as tie
 
-slice-aggregate-write-doubles : tie.Need-slice-aggregate-write-doubles
-slice-aggregate-write-doubles c = search needs
-
-write-doubles-requires : tie.Need-write-doubles-requires
-write-doubles-requires c κs = search needs
-
-put-le-requires : tie.Need-put-le-requires
-put-le-requires c κs = search needs
-
-put-le-requires-2 : tie.Need-put-le-requires-2
-put-le-requires-2 c κs = search needs
-
-put-starts-requires : tie.Need-put-starts-requires
-put-starts-requires c κs = search needs
-
-same-length : tie.Need-same-length
-same-length c = search needs
-
 returns : tie.Need-returns
 unfolding little
 returns c =
@@ -40,10 +22,10 @@ pub put-front-spec : {M : Type 1} → statement M
 put-front-spec =
     tie.close
     (tie.spec
-    slice-aggregate-write-doubles
-    write-doubles-requires
-    put-le-requires
-    put-le-requires-2
-    put-starts-requires
-    same-length
+    (λ c. search needs)
+    (λ c κs. search needs)
+    (λ c κs. search needs)
+    (λ c κs. search needs)
+    (λ c κs. search needs)
+    (λ c. search needs)
     returns)

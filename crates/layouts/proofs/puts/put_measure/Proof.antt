@@ -14,20 +14,11 @@ e1 c = c .before .before .before
 room : (c : tie.Then1) → e1 c .args .at + (16 + 8 * length (e1 c .args .values .now)) ≤ length (e1 c .args .out .now)
 room c = rw (c .if1 .taken) at (c .before .before .before .pre)
 
-add-values-at : tie.Need-add-values-at
-add-values-at c = search needs
-
-slice-aggregate-write-doubles : tie.Need-slice-aggregate-write-doubles
-slice-aggregate-write-doubles c = search needs
-
 write-doubles-requires : tie.Need-write-doubles-requires
 write-doubles-requires c κs = omega (arith, room (c .before .before))
 
 write-doubles-requires-2 : tie.Need-write-doubles-requires-2
 write-doubles-requires-2 c κs = omega (arith, room (c .before .before .before .before .before .before))
-
-same-length : tie.Need-same-length
-same-length c = search needs
 
 returns : tie.Need-returns
 returns c =
@@ -43,10 +34,10 @@ pub put-measure-spec : {M : Type 1} → statement M
 put-measure-spec =
     tie.close
     (tie.spec
-    add-values-at
-    slice-aggregate-write-doubles
+    (λ c. search needs)
+    (λ c. search needs)
     write-doubles-requires
     write-doubles-requires-2
-    same-length
+    (λ c. search needs)
     returns
     returns-2)

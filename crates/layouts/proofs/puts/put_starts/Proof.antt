@@ -7,9 +7,10 @@ use native.Mathlib.Omega.{arith}
 use lib.ListN.{length, getD, drop}
 use lib.Seq.{sets, drop-length}
 use Rattle.format.specs.Numbers.{little}
+use Rattle.format.specs.Shapes.{sum}
+use Rattle.format.proofs.LayoutLaws.{sum-drop}
 use Rattle.layouts.specs.Steps.{startsBytes}
-use Rattle.layouts.specs.Tables.{sum}
-use Rattle.layouts.proofs.Turns.{sum-drop, starts-turn}
+use Rattle.layouts.proofs.Turns.{starts-turn}
 use Rattle.layouts.proofs.puts.put_starts.Statement.{statement}
 use Rattle.layouts.proofs.puts.put_starts.Tie as tie
 
@@ -22,21 +23,6 @@ abbrev μ-loop : tie.MeasureT-loop
 
 loop-holds : tie.Need-loop-holds Inv-loop μ-loop
 loop-holds c = (omega arith, refl, omega arith, rw add-zero)
-
-mul-put-le : tie.Need-mul-put-le Inv-loop μ-loop
-mul-put-le c = omega arith
-
-add-put-le : tie.Need-add-put-le Inv-loop μ-loop
-add-put-le c = omega arith
-
-put-le-requires : tie.Need-put-le-requires Inv-loop μ-loop
-put-le-requires c κs = omega arith
-
-mul-start : tie.Need-mul-start Inv-loop μ-loop
-mul-start c = omega arith
-
-shared-slice-read-start : tie.Need-shared-slice-read-start Inv-loop μ-loop
-shared-slice-read-start c = omega arith
 
 cast-start : tie.Need-cast-start Inv-loop μ-loop
 cast-start c = omega (arith, c .shared-slice-known2 .given (c .before .before .before .before .before .before .loop .i))
@@ -54,12 +40,6 @@ rest c = sum-drop _ _ (c .before .before .before .before .before .loop-test .tak
 add-start : tie.Need-add-start Inv-loop μ-loop
 add-start c = omega (arith, rest c)
 
-add-i : tie.Need-add-i Inv-loop μ-loop
-add-i c = omega arith
-
-loop-less : tie.Need-loop-less Inv-loop μ-loop
-loop-less c = omega arith
-
 loop-again : tie.Need-loop-again Inv-loop μ-loop
 unfolding little
 loop-again c =
@@ -71,9 +51,6 @@ loop-again c =
       omega (arith, rest c),
       rw (p .ensures) (starts-turn (l .out) (a .at) (l .i) (l .start) (a .counts .now) (omega arith) ∙ l .inv .3),
     )
-
-same-length : tie.Need-same-length Inv-loop μ-loop
-same-length c = omega arith
 
 returns : tie.Need-returns Inv-loop μ-loop
 unfolding startsBytes
@@ -89,15 +66,15 @@ put-starts-spec =
     Inv-loop
     μ-loop
     loop-holds
-    mul-put-le
-    add-put-le
-    put-le-requires
-    mul-start
-    shared-slice-read-start
+    (λ c. omega arith)
+    (λ c. omega arith)
+    (λ c κs. omega arith)
+    (λ c. omega arith)
+    (λ c. omega arith)
     cast-start
     add-start
-    add-i
-    loop-less
+    (λ c. omega arith)
+    (λ c. omega arith)
     loop-again
-    same-length
+    (λ c. omega arith)
     returns)

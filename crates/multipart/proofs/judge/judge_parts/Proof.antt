@@ -29,67 +29,19 @@ held c = rw (n-is (c .before .before)) at (c .loop .inv)
 told : (c : tie.After-part-at Inv-loop μ-loop) (r : PartAnswer) → c .part-at .result ≡ r → saidPart r ≡ saidAt (c .before .before .loop .left) (c .before .before .loop .start) (c .before .before .before .before .args .n) (c .before .before .before .before .args .s .now)
 told c r e = ap saidPart (sym e) ∙ (rw (n-is (c .before .before .before .before)) at (c .part-at .ensures))
 
-mul-at : tie.Need-mul-at Inv-loop μ-loop
-mul-at c = omega arith
-
-add-at : tie.Need-add-at Inv-loop μ-loop
-add-at c = omega arith
-
 loop-holds : tie.Need-loop-holds Inv-loop μ-loop
 loop-holds c = judging-first _ _ _ (c .before .pre)
-
-sub-left : tie.Need-sub-left Inv-loop μ-loop
-sub-left c = omega arith
-
-part-at-requires : tie.Need-part-at-requires Inv-loop μ-loop
-part-at-requires c κs = omega arith
-
-enum-told : tie.Need-enum-told Inv-loop μ-loop
-enum-told c = search needs
 
 returns : tie.Need-returns Inv-loop μ-loop
 returns c =
     let l = c .before .before .before .before in
     judging-refused _ _ _ _ _ _ _ (held l) (c .before .before .before .loop-test .taken) (told (c .before .before) Is.Size (c .enum-told .given .1))
 
-enum-known-k : tie.Need-enum-known-k Inv-loop μ-loop
-enum-known-k c = search needs
-
-cast-count : tie.Need-cast-count Inv-loop μ-loop
-cast-count c = search needs
-
-sub-if1 : tie.Need-sub-if1 Inv-loop μ-loop
-sub-if1 c = omega arith
-
-sub-t18 : tie.Need-sub-t18 Inv-loop μ-loop
-sub-t18 c = omega arith
-
-mul-t20 : tie.Need-mul-t20 Inv-loop μ-loop
-mul-t20 c = omega arith
-
-add-t21 : tie.Need-add-t21 Inv-loop μ-loop
-add-t21 c = omega arith
-
 returns-2 : tie.Need-returns-2 Inv-loop μ-loop
 returns-2 c =
     let t = c .before .before .before .before in
     let k = c .before .before .k .given in
     judging-cut _ _ _ _ _ _ _ (held (t .before .before)) (t .before .loop-test .taken) (k .0 .0) (told t (Is.Count (k .0 .0)) (k .1)) (c .if1 .taken)
-
-mul-at-2 : tie.Need-mul-at-2 Inv-loop μ-loop
-mul-at-2 c = omega arith
-
-add-at-2 : tie.Need-add-at-2 Inv-loop μ-loop
-add-at-2 c = omega arith
-
-add-points : tie.Need-add-points Inv-loop μ-loop
-add-points c = omega arith
-
-add-start : tie.Need-add-start Inv-loop μ-loop
-add-start c = omega arith
-
-loop-less : tie.Need-loop-less Inv-loop μ-loop
-loop-less c = omega arith
 
 loop-again : tie.Need-loop-again Inv-loop μ-loop
 loop-again c =
@@ -107,24 +59,24 @@ judge-parts-spec =
     (tie.spec
     Inv-loop
     μ-loop
-    mul-at
-    add-at
+    (λ c. omega arith)
+    (λ c. omega arith)
     loop-holds
-    sub-left
-    part-at-requires
-    enum-told
+    (λ c. omega arith)
+    (λ c κs. omega arith)
+    (λ c. search needs)
     returns
-    enum-known-k
-    cast-count
-    sub-if1
-    sub-t18
-    mul-t20
-    add-t21
+    (λ c. search needs)
+    (λ c. search needs)
+    (λ c. omega arith)
+    (λ c. omega arith)
+    (λ c. omega arith)
+    (λ c. omega arith)
     returns-2
-    mul-at-2
-    add-at-2
-    add-points
-    add-start
-    loop-less
+    (λ c. omega arith)
+    (λ c. omega arith)
+    (λ c. omega arith)
+    (λ c. omega arith)
+    (λ c. omega arith)
     loop-again
     returns-3)

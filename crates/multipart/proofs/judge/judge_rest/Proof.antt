@@ -68,37 +68,10 @@ m-told : (c : tie.After-judge-measure2) (r : Walk) → c .judge-measure2 .result
 unfolding mAt
 m-told c r e = measure-found (e3 c .args .m) (s3 c) _ r _ _ _ _ (parts-on (c .before .before .before .before .before) .1 .0) (z-on (c .before) .1 .0) e (c .judge-measure2 .ensures)
 
-sub-whole : tie.Need-sub-whole
-sub-whole c = search needs
-
-mul-t18 : tie.Need-mul-t18
-mul-t18 c = search needs
-
-add-t19 : tie.Need-add-t19
-add-t19 c = search needs
-
 returns : tie.Need-returns
 returns c =
     let a = c .before .before in
     starts-cut (a .args .z) (a .args .m) (a .args .s .now) (a .pre .0) (rw (a .pre .1) at (c .if1 .taken))
-
-judge-parts-requires : tie.Need-judge-parts-requires
-judge-parts-requires c κs = search needs
-
-enum-known-at : tie.Need-enum-known-at
-enum-known-at c = search needs
-
-enum-known-at-2 : tie.Need-enum-known-at-2
-enum-known-at-2 c = search needs
-
-enum-known-points : tie.Need-enum-known-points
-enum-known-points c = search needs
-
-mul-judge-measure : tie.Need-mul-judge-measure
-mul-judge-measure c = search needs
-
-add-judge-measure : tie.Need-add-judge-measure
-add-judge-measure c = search needs
 
 mul-judge-measure-2 : tie.Need-mul-judge-measure-2
 mul-judge-measure-2 c = omega (arith, pairs-inside c)
@@ -109,26 +82,8 @@ add-judge-measure-2 c = omega (arith, pairs-inside c)
 judge-measure-requires : tie.Need-judge-measure-requires
 judge-measure-requires c κs = omega (arith, pairs-inside c)
 
-enum-known-at-3 : tie.Need-enum-known-at-3
-enum-known-at-3 c = search needs
-
-enum-known-at-4 : tie.Need-enum-known-at-4
-enum-known-at-4 c = search needs
-
-enum-known-end : tie.Need-enum-known-end
-enum-known-end c = search needs
-
 judge-measure-requires-2 : tie.Need-judge-measure-requires-2
 judge-measure-requires-2 c κs = (z-on c .1 .1, omega (arith, pairs-inside (c .before .before .before .before)))
-
-enum-known-at-5 : tie.Need-enum-known-at-5
-enum-known-at-5 c = search needs
-
-enum-known-at-6 : tie.Need-enum-known-at-6
-enum-known-at-6 c = search needs
-
-enum-told : tie.Need-enum-told
-enum-told c = search needs
 
 returns-2 : tie.Need-returns-2
 returns-2 c =
@@ -179,26 +134,26 @@ pub judge-rest-spec : {M : Type 1} → statement M
 judge-rest-spec =
     tie.close
     (tie.spec
-    sub-whole
-    mul-t18
-    add-t19
+    (λ c. search needs)
+    (λ c. search needs)
+    (λ c. search needs)
     returns
-    judge-parts-requires
-    enum-known-at
-    enum-known-at-2
-    enum-known-points
-    mul-judge-measure
-    add-judge-measure
+    (λ c κs. search needs)
+    (λ c. search needs)
+    (λ c. search needs)
+    (λ c. search needs)
+    (λ c. search needs)
+    (λ c. search needs)
     mul-judge-measure-2
     add-judge-measure-2
     judge-measure-requires
-    enum-known-at-3
-    enum-known-at-4
-    enum-known-end
+    (λ c. search needs)
+    (λ c. search needs)
+    (λ c. search needs)
     judge-measure-requires-2
-    enum-known-at-5
-    enum-known-at-6
-    enum-told
+    (λ c. search needs)
+    (λ c. search needs)
+    (λ c. search needs)
     returns-2
     returns-3
     returns-4

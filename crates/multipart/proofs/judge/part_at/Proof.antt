@@ -10,21 +10,6 @@ use Rattle.multipart.proofs.PartLaws.{next-start, last-end}
 use Rattle.multipart.proofs.judge.part_at.Statement.{statement}
 use Rattle.multipart.proofs.judge.part_at.Tie as tie
 
-le-i32-at-requires : tie.Need-le-i32-at-requires
-le-i32-at-requires c κs = search needs
-
-add-le-i32-at : tie.Need-add-le-i32-at
-add-le-i32-at c = search needs
-
-le-i32-at-requires-2 : tie.Need-le-i32-at-requires-2
-le-i32-at-requires-2 c κs = search needs
-
-part-count-requires : tie.Need-part-count-requires
-part-count-requires c κs = search needs
-
-part-count-requires-2 : tie.Need-part-count-requires-2
-part-count-requires-2 c κs = search needs
-
 returns : tie.Need-returns
 returns c =
     let a = c .before .before .before .before .before .args in
@@ -45,10 +30,10 @@ pub part-at-spec : {M : Type 1} → statement M
 part-at-spec =
     tie.close
     (tie.spec
-    le-i32-at-requires
-    add-le-i32-at
-    le-i32-at-requires-2
-    part-count-requires
-    part-count-requires-2
+    (λ c κs. search needs)
+    (λ c. search needs)
+    (λ c κs. search needs)
+    (λ c κs. search needs)
+    (λ c κs. search needs)
     returns
     returns-2)

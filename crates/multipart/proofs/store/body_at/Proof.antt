@@ -1,10 +1,11 @@
 -- `multipart::store::body_at` meets its contract: each field is read at its place, and all of them lie within the bytes.
-use mathlib.Core.Path.{_≡_, _∙_}
-use mathlib.Core.Bool.{cond}
-use Prim.Native.Nat.{_+_, _≤_}
+use mathlib.Core.Path.{_≡_, ap, _∙_}
+use mathlib.Core.Bool.{Bool, cond}
+use Prim.Native.Nat.{ℕ, _+_, _≤_}
 use native.Mathlib.Omega.{arith}
 use lib.ListN.{length}
-use Rattle.multipart.specs.Body.{mAt, bodyIn}
+use Rattle.multipart.specs.declared.Range.{Range}
+use Rattle.multipart.specs.Body.{mAt, rangeAt, noRange, bodyIn}
 use Rattle.multipart.specs.Walks.{endAfter}
 use Rattle.multipart.proofs.BodyLaws.{m-place, box-inside, z-range-inside, m-range-inside}
 use Rattle.multipart.proofs.store.body_at.Statement.{statement}
@@ -47,18 +48,21 @@ returns : tie.Need-returns
 unfolding bodyIn
 returns c =
     let a = c .before .before .before .before .before .before .before .before in
-    rw (
-      c .before .before .before .before .before .le-f64-at .ensures,
-      c .before .before .before .before .le-f64-at2 .ensures,
-      c .before .before .before .le-f64-at3 .ensures,
-      c .before .before .le-f64-at4 .ensures,
-      c .before .range-at .ensures,
-      c .range-at2 .ensures,
-      c .before .before .before .before .before .before .end-after .ensures ∙ m-at a,
-      a .pre .0,
-      a .pre .1,
-      a .pre .2,
-    )
+    let range : Bool → ℕ → Range = λ flag at. cond flag (rangeAt at (a .args .s .now)) noRange in
+    λ i.
+    record {
+      bbox =
+          record {
+            xmin = c .before .before .before .before .before .le-f64-at .ensures i;
+            ymin = c .before .before .before .before .le-f64-at2 .ensures i;
+            xmax = c .before .before .before .le-f64-at3 .ensures i;
+            ymax = c .before .before .le-f64-at4 .ensures i;
+          };
+      «z_range» = (c .before .range-at .ensures ∙ ap (range (a .args .z)) (a .pre .2)) i;
+      «m_range» = (c .range-at2 .ensures ∙ ap (range (a .args .m)) (c .before .before .before .before .before .before .end-after .ensures ∙ m-at a)) i;
+      parts = a .pre .0 i;
+      points = a .pre .1 i;
+    }
 
 pub body-at-spec : {M : Type 1} → statement M
 body-at-spec =

@@ -14,15 +14,6 @@ use Rattle.multipart.proofs.PartLaws.{is-count, no-count}
 use Rattle.multipart.proofs.store.count_at.Statement.{statement}
 use Rattle.multipart.proofs.store.count_at.Tie as tie
 
-part-at-requires : tie.Need-part-at-requires
-part-at-requires c κs = search needs
-
-enum-known-k : tie.Need-enum-known-k
-enum-known-k c = search needs
-
-enum-told : tie.Need-enum-told
-enum-told c = search needs
-
 -- what was said of the part
 told : (c : tie.After-part-at) (r : PartAnswer) → c .part-at .result ≡ r → saidPart r ≡ partOf (leI32 (c .before .before .args .start) (c .before .before .args .s .now)) (endOf (startsAt (c .before .before .args .follow) (c .before .before .args .start + 4) (c .before .before .args .s .now)) (c .before .before .args .n))
 told c r e = rw (← toZ-ofZ w32 (c .before .before .args .n) (c .before .before .fits .n)) (ap saidPart (sym e) ∙ c .part-at .ensures)
@@ -34,4 +25,5 @@ returns-2 : tie.Need-returns-2
 returns-2 c = rw (no-count _ _ (told (c .before .before) Is.Size (c .enum-told .given .1)))
 
 pub count-at-spec : {M : Type 1} → statement M
-count-at-spec = tie.close (tie.spec part-at-requires enum-known-k enum-told returns returns-2)
+count-at-spec =
+    tie.close (tie.spec (λ c κs. search needs) (λ c. search needs) (λ c. search needs) returns returns-2)

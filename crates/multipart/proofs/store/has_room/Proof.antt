@@ -15,12 +15,6 @@ returns-2 c =
     let a = c .before .before .args in
     rw (le-leb _ _ (c .before .if1 .left), lt-leb (2 * a .n) (a .xy) (omega arith))
 
-holds-requires : tie.Need-holds-requires
-holds-requires c κs = search needs
-
-holds-requires-2 : tie.Need-holds-requires-2
-holds-requires-2 c κs = search needs
-
 returns-3 : tie.Need-returns-3
 returns-3 c =
     let a = c .before .before .before .before .before .args in
@@ -33,4 +27,4 @@ returns-4 c =
 
 pub has-room-spec : {M : Type 1} → statement M
 has-room-spec =
-    tie.close (tie.spec returns returns-2 holds-requires holds-requires-2 returns-3 returns-4)
+    tie.close (tie.spec returns returns-2 (λ c κs. search needs) (λ c κs. search needs) returns-3 returns-4)

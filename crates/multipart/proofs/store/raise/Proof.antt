@@ -1,6 +1,7 @@
 -- `multipart::store::raise` meets its contract: the code's -10e38 is the definition's.
 use mathlib.Core.Path.{_≡_, refl}
-use lib.Ieee.{binary64, neg, ofBits}
+use mathlib.Core.Bool.{Bool, true, false, cond}
+use lib.Ieee.{Float, binary64, lt, neg, ofBits}
 use Rattle.multipart.specs.Body.{noData, raised}
 use Rattle.multipart.proofs.store.raise.Statement.{statement}
 use Rattle.multipart.proofs.store.raise.Tie as tie
@@ -9,13 +10,16 @@ no-data : neg (ofBits binary64 0x4807_8287_f49c_4a1d) ≡ noData
 unfolding neg ofBits noData
 no-data = refl
 
-returns : tie.Need-returns
+-- by the test, which is of -10e38 against the value
+by-test : (x : Float) (b : Bool) → lt (neg (ofBits binary64 0x4807_8287_f49c_4a1d)) x ≡ b → cond b x (neg (ofBits binary64 0x4807_8287_f49c_4a1d)) ≡ raised x
 unfolding raised
-returns c = rw (← no-data, c .if1 .taken)
+by-test x b e = rw (← no-data, e)
+
+returns : tie.Need-returns
+returns c = by-test (c .before .args .x) true (c .if1 .taken)
 
 returns-2 : tie.Need-returns-2
-unfolding raised
-returns-2 c = rw (← no-data, c .if1 .left)
+returns-2 c = by-test (c .before .args .x) false (c .if1 .left)
 
 pub raise-spec : {M : Type 1} → statement M
 raise-spec = tie.close (tie.spec returns returns-2)

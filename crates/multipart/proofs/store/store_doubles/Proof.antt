@@ -4,21 +4,6 @@ use Rattle.multipart.proofs.StoreLaws.{front-back}
 use Rattle.multipart.proofs.store.store_doubles.Statement.{statement}
 use Rattle.multipart.proofs.store.store_doubles.Tie as tie
 
-sub-read-doubles : tie.Need-sub-read-doubles
-sub-read-doubles c = search needs
-
-part-read-doubles-start : tie.Need-part-read-doubles-start
-part-read-doubles-start c = search needs
-
-part-read-doubles-end : tie.Need-part-read-doubles-end
-part-read-doubles-end c = search needs
-
-read-doubles-requires : tie.Need-read-doubles-requires
-read-doubles-requires c κs = search needs
-
-same-length : tie.Need-same-length
-same-length c = search needs
-
 returns : tie.Need-returns
 returns c =
     let a = c .before .before .before .before .before .before in
@@ -28,9 +13,9 @@ pub store-doubles-spec : {M : Type 1} → statement M
 store-doubles-spec =
     tie.close
     (tie.spec
-    sub-read-doubles
-    part-read-doubles-start
-    part-read-doubles-end
-    read-doubles-requires
-    same-length
+    (λ c. search needs)
+    (λ c. search needs)
+    (λ c. search needs)
+    (λ c κs. search needs)
+    (λ c. search needs)
     returns)

@@ -29,33 +29,6 @@ loop-holds c =
     let p = c .before .before .before .pre in
     (omega arith, rw (c .if1 .taken) at (p .0), rw (c .if1 .taken) at (p .1), refl, rw (sub-zero, add-zero))
 
-add-le-f64-at : tie.Need-add-le-f64-at Inv-loop μ-loop
-add-le-f64-at c = omega arith
-
-mul-le-f64-at : tie.Need-mul-le-f64-at Inv-loop μ-loop
-mul-le-f64-at c = omega arith
-
-add-le-f64-at-2 : tie.Need-add-le-f64-at-2 Inv-loop μ-loop
-add-le-f64-at-2 c = omega arith
-
-le-f64-at-requires : tie.Need-le-f64-at-requires Inv-loop μ-loop
-le-f64-at-requires c κs = omega arith
-
-raise-requires : tie.Need-raise-requires Inv-loop μ-loop
-raise-requires c κs = search needs
-
-mul-ms : tie.Need-mul-ms Inv-loop μ-loop
-mul-ms c = omega arith
-
-slice-write-ms : tie.Need-slice-write-ms Inv-loop μ-loop
-slice-write-ms c = omega arith
-
-add-i : tie.Need-add-i Inv-loop μ-loop
-add-i c = omega arith
-
-loop-less : tie.Need-loop-less Inv-loop μ-loop
-loop-less c = omega arith
-
 loop-again : tie.Need-loop-again Inv-loop μ-loop
 loop-again c =
     let l = c .before .before .before .loop in
@@ -66,9 +39,6 @@ loop-again c =
       simp length-set (l .inv .3),
       rw (c .raise .ensures ∙ ap raised (c .before .le-f64-at .ensures)) (raised-turn (l .ms) (a .n) (a .at + 16) (l .i) (a .s .now) (c .before .before .loop-test .taken) ∙ l .inv .4),
     )
-
-same-length : tie.Need-same-length Inv-loop μ-loop
-same-length c = omega arith
 
 returns : tie.Need-returns Inv-loop μ-loop
 returns c =
@@ -86,16 +56,16 @@ store-m-spec =
     Inv-loop
     μ-loop
     loop-holds
-    add-le-f64-at
-    mul-le-f64-at
-    add-le-f64-at-2
-    le-f64-at-requires
-    raise-requires
-    mul-ms
-    slice-write-ms
-    add-i
-    loop-less
+    (λ c. omega arith)
+    (λ c. omega arith)
+    (λ c. omega arith)
+    (λ c κs. omega arith)
+    (λ c κs. search needs)
+    (λ c. omega arith)
+    (λ c. omega arith)
+    (λ c. omega arith)
+    (λ c. omega arith)
     loop-again
-    same-length
+    (λ c. omega arith)
     returns
     returns-2)

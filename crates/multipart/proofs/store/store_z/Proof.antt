@@ -4,9 +4,6 @@ use borrow.Author.Needs.{needs}
 use Rattle.multipart.proofs.store.store_z.Statement.{statement}
 use Rattle.multipart.proofs.store.store_z.Tie as tie
 
-add-store-doubles : tie.Need-add-store-doubles
-add-store-doubles c = search needs
-
 store-doubles-requires : tie.Need-store-doubles-requires
 store-doubles-requires c κs =
     let p = c .before .before .before .before .pre in
@@ -14,15 +11,15 @@ store-doubles-requires c κs =
     let room = rw (c .before .if1 .taken) at (p .1) in
     omega arith
 
-same-length : tie.Need-same-length
-same-length c = search needs
-
 returns : tie.Need-returns
 returns c = rw (c .before .before .before .before .if1 .taken) (c .before .before .store-doubles .ensures)
 
-returns-2 : tie.Need-returns-2
-returns-2 c = search needs
-
 pub store-z-spec : {M : Type 1} → statement M
 store-z-spec =
-    tie.close (tie.spec add-store-doubles store-doubles-requires same-length returns returns-2)
+    tie.close
+    (tie.spec
+    (λ c. search needs)
+    store-doubles-requires
+    (λ c. search needs)
+    returns
+    (λ c. search needs))

@@ -18,29 +18,17 @@ fine6 c = sym (c .before .all-finite .ensures) ∙ not-false _ (c .if2 .left)
 fine7 : (c : tie.Else3) → P7 (c .before .before .before .before .before .before .before .before .args .shp .now) (c .before .before .before .before .before .before .before .before .args .shx .now) ≡ true
 fine7 c = sym (c .before .headers-agree .ensures) ∙ not-false _ (c .if3 .left)
 
-length-right-requires : tie.Need-length-right-requires
-length-right-requires c κs = search needs
-
 returns : tie.Need-returns
 unfolding backFault
 returns c = rw (sym (c .before .length-right .ensures) ∙ not-true _ (c .if1 .taken))
-
-all-finite-requires : tie.Need-all-finite-requires
-all-finite-requires c κs = search needs
 
 returns-2 : tie.Need-returns-2
 unfolding backFault
 returns-2 c = rw (fine5 (c .before .before), sym (c .before .all-finite .ensures) ∙ not-true _ (c .if2 .taken))
 
-headers-agree-requires : tie.Need-headers-agree-requires
-headers-agree-requires c κs = search needs
-
 returns-3 : tie.Need-returns-3
 unfolding backFault
 returns-3 c = rw (fine5 (c .before .before .before .before), fine6 (c .before .before), sym (c .before .headers-agree .ensures) ∙ not-true _ (c .if3 .taken))
-
-index-sized-requires : tie.Need-index-sized-requires
-index-sized-requires c κs = search needs
 
 returns-4 : tie.Need-returns-4
 unfolding backFault
@@ -58,12 +46,12 @@ pub back-fault-spec : {M : Type 1} → statement M
 back-fault-spec =
     tie.close
     (tie.spec
-    length-right-requires
+    (λ c κs. search needs)
     returns
-    all-finite-requires
+    (λ c κs. search needs)
     returns-2
-    headers-agree-requires
+    (λ c κs. search needs)
     returns-3
-    index-sized-requires
+    (λ c κs. search needs)
     returns-4
     returns-5)

@@ -14,9 +14,6 @@ returns-2 : tie.Need-returns-2
 unfolding frontFault
 returns-2 c = rw (le-leb 100 _ (c .before .if1 .left), lt-leb 100 _ (c .if2 .taken))
 
-starts-right-requires : tie.Need-starts-right-requires
-starts-right-requires c κs = search needs
-
 returns-3 : tie.Need-returns-3
 unfolding frontFault
 returns-3 c =
@@ -30,4 +27,4 @@ returns-4 c =
     rw (le-leb 100 _ (d .before .if1 .left), le-leb 100 _ (d .if2 .left), sym (c .before .starts-right .ensures) ∙ not-false _ (c .if3 .left))
 
 pub front-fault-spec : {M : Type 1} → statement M
-front-fault-spec = tie.close (tie.spec returns returns-2 starts-right-requires returns-3 returns-4)
+front-fault-spec = tie.close (tie.spec returns returns-2 (λ c κs. search needs) returns-3 returns-4)

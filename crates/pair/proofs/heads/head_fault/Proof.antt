@@ -91,9 +91,6 @@ at4 c =
     let s = e4 c in
     past (kind-of s) (record-of s) (index-of s) (s .args .at) (s .args .k) 3 (at3 (c .before .before .before .before)) (eq-eqb (littleAt 8 (record-of s)) (kind-of s .kind .code) (code-is (c .before .before) ∙ c .if4 .left))
 
-numbered-requires : tie.Need-numbered-requires
-numbered-requires c κs = search needs
-
 returns : tie.Need-returns
 returns c =
     let s = c .before .before .before .before in
@@ -117,14 +114,8 @@ returns-3 c =
     let s = e2 d in
     refused (kind-of s) (record-of s) (index-of s) (s .args .at) (s .args .k) 2 (at2 d) (sym (c .before .indexed .ensures) ∙ not-true _ (c .if3 .taken))
 
-add-little : tie.Need-add-little
-add-little c = search needs
-
 little-requires : tie.Need-little-requires
 little-requires c κs = omega (arith, room (c .before .before .before))
-
-cast-if4 : tie.Need-cast-if4
-cast-if4 c = search needs
 
 returns-4 : tie.Need-returns-4
 returns-4 c =
@@ -151,15 +142,15 @@ pub head-fault-spec : {M : Type 1} → statement M
 head-fault-spec =
     tie.close
     (tie.spec
-    numbered-requires
+    (λ c κs. search needs)
     returns
     inside-requires
     returns-2
     indexed-requires
     returns-3
-    add-little
+    (λ c. search needs)
     little-requires
-    cast-if4
+    (λ c. search needs)
     returns-4
     sized-requires
     returns-5

@@ -5,18 +5,11 @@ use borrow.Author.Tests.{not-true, not-false}
 use Rattle.pair.proofs.heads.headers_agree.Statement.{statement}
 use Rattle.pair.proofs.heads.headers_agree.Tie as tie
 
-same-bytes-requires : tie.Need-same-bytes-requires
-same-bytes-requires c κs = search needs
-
 returns : tie.Need-returns
 returns c = rw (sym (c .before .same-bytes .ensures) ∙ not-true _ (c .if1 .taken))
-
-same-bytes-requires-2 : tie.Need-same-bytes-requires-2
-same-bytes-requires-2 c κs = search needs
 
 returns-2 : tie.Need-returns-2
 returns-2 c = rw (sym (c .before .before .same-bytes .ensures) ∙ not-false _ (c .before .if1 .left)) (c .same-bytes2 .ensures)
 
 pub headers-agree-spec : {M : Type 1} → statement M
-headers-agree-spec =
-    tie.close (tie.spec same-bytes-requires returns same-bytes-requires-2 returns-2)
+headers-agree-spec = tie.close (tie.spec (λ c κs. search needs) returns (λ c κs. search needs) returns-2)

@@ -1,7 +1,8 @@
 -- `pair::heads::indexed` meets its contract: by the entry that the index has at the place.
-use mathlib.Core.Path.{_≡_, sym, ap, _∙_}
+use mathlib.Core.Path.{_≡_, sym, ap, ap₂, _∙_}
 use borrow.Author.Needs.{needs}
 use Prim.Native.Nat.{_*_, _≤_}
+use lib.Dec.{eqb}
 use lib.ListN.{length, drop, length-drop}
 use Rattle.rules.specs.Rules.{bigAt}
 use Rattle.pair.proofs.HeadLaws.{none11, negative11, offset11, last11}
@@ -16,59 +17,38 @@ there c = rw length-drop (c .if1 .left)
 offset-is : (c : tie.After-big) → bigAt 0 (drop (c .before .before .before .before .args .ix) (c .before .before .before .before .args .shx .now)) ≡ c .big .result
 offset-is c = big-here (c .before .before .before .before .args .ix) (c .before .before .before .before .args .shx .now) ∙ sym (c .big .ensures .value)
 
-sub-if1 : tie.Need-sub-if1
-sub-if1 c = search needs
-
 returns : tie.Need-returns
 returns c = let a = c .before .before .before .args in none11 _ (drop (a .ix) (a .shx .now)) (a .at) (rw length-drop (c .if1 .taken))
-
-big-requires : tie.Need-big-requires
-big-requires c κs = search needs
 
 returns-2 : tie.Need-returns-2
 returns-2 c =
     let d = c .before in
     negative11 _ (drop (d .before .before .before .before .args .ix) (d .before .before .before .before .args .shx .now)) _ (there (d .before)) (rw (offset-is d) (c .if2 .taken))
 
-in-bytes-requires : tie.Need-in-bytes-requires
-in-bytes-requires c κs = search needs
-
 returns-3 : tie.Need-returns-3
 returns-3 c =
     let d = c .before .before .before in
     offset11 _ (drop (d .before .before .before .before .args .ix) (d .before .before .before .before .args .shx .now)) _ (there (d .before)) (rw (offset-is d) (c .before .before .if2 .left)) (λ e. c .if3 .taken (c .before .in-bytes .ensures ∙ (ap (λ n. 2 * n) (sym (offset-is d)) ∙ e)))
 
-add-big : tie.Need-add-big
-add-big c = search needs
-
-big-requires-2 : tie.Need-big-requires-2
-big-requires-2 c κs = search needs
-
-add-big-2 : tie.Need-add-big-2
-add-big-2 c = search needs
-
-big-requires-3 : tie.Need-big-requires-3
-big-requires-3 c κs = search needs
-
 returns-4 : tie.Need-returns-4
 returns-4 c =
     let d = c .before .before .before .before .before in
     let a = d .before .before .before .before .args in
-    rw (c .before .big2 .ensures .value, c .big3 .ensures .value, ← big-drop (a .ix) (a .shx .now) 4, ← big-drop (a .at) (a .shp .now) 4)
-    (last11 _ (drop (a .ix) (a .shx .now)) _ (there (d .before)) (rw (offset-is d) (c .before .before .before .before .if2 .left)) (ap (λ n. 2 * n) (offset-is d) ∙ (sym (c .before .before .before .in-bytes .ensures) ∙ c .before .before .if3 .left)))
+    ap₂ eqb (c .before .big2 .ensures .value ∙ sym (big-drop (a .ix) (a .shx .now) 4)) (c .big3 .ensures .value ∙ sym (big-drop (a .at) (a .shp .now) 4))
+    ∙ last11 _ (drop (a .ix) (a .shx .now)) _ (there (d .before)) (rw (offset-is d) (c .before .before .before .before .if2 .left)) (ap (λ n. 2 * n) (offset-is d) ∙ (sym (c .before .before .before .in-bytes .ensures) ∙ c .before .before .if3 .left))
 
 pub indexed-spec : {M : Type 1} → statement M
 indexed-spec =
     tie.close
     (tie.spec
-    sub-if1
+    (λ c. search needs)
     returns
-    big-requires
+    (λ c κs. search needs)
     returns-2
-    in-bytes-requires
+    (λ c κs. search needs)
     returns-3
-    add-big
-    big-requires-2
-    add-big-2
-    big-requires-3
+    (λ c. search needs)
+    (λ c κs. search needs)
+    (λ c. search needs)
+    (λ c κs. search needs)
     returns-4)

@@ -12,12 +12,6 @@ use Rattle.pair.proofs.heads.inside.Tie as tie
 words-are : (c : tie.After-big) → wordsOf (drop (c .before .before .args .at) (c .before .before .args .shp .now)) ≡ c .big .result
 words-are c = big-drop (c .before .before .args .at) (c .before .before .args .shp .now) 4 ∙ sym (c .big .ensures .value)
 
-add-big : tie.Need-add-big
-add-big c = search needs
-
-big-requires : tie.Need-big-requires
-big-requires c κs = search needs
-
 returns : tie.Need-returns
 returns c =
     let d = c .before in
@@ -27,15 +21,6 @@ returns-2 : tie.Need-returns-2
 returns-2 c =
     let d = c .before .before in
     few10 _ (rw (words-are d) (c .before .if1 .left)) (rw (words-are d) (c .if2 .taken))
-
-in-bytes-requires : tie.Need-in-bytes-requires
-in-bytes-requires c κs = search needs
-
-add-result : tie.Need-add-result
-add-result c = search needs
-
-sub-result : tie.Need-sub-result
-sub-result c = search needs
 
 returns-3 : tie.Need-returns-3
 returns-3 c =
@@ -47,11 +32,11 @@ pub inside-spec : {M : Type 1} → statement M
 inside-spec =
     tie.close
     (tie.spec
-    add-big
-    big-requires
+    (λ c. search needs)
+    (λ c κs. search needs)
     returns
     returns-2
-    in-bytes-requires
-    add-result
-    sub-result
+    (λ c κs. search needs)
+    (λ c. search needs)
+    (λ c. search needs)
     returns-3)

@@ -4,17 +4,11 @@ use borrow.Author.Needs.{needs}
 use Rattle.pair.proofs.heads.measures.Statement.{statement}
 use Rattle.pair.proofs.heads.measures.Tie as tie
 
-gives-requires : tie.Need-gives-requires
-gives-requires c κs = search needs
-
 returns : tie.Need-returns
 returns c = rw (sym (c .before .gives .ensures) ∙ c .if1 .taken)
-
-gives-requires-2 : tie.Need-gives-requires-2
-gives-requires-2 c κs = search needs
 
 returns-2 : tie.Need-returns-2
 returns-2 c = rw (sym (c .before .before .before .gives .ensures) ∙ c .before .before .if1 .left) (c .gives2 .ensures)
 
 pub measures-spec : {M : Type 1} → statement M
-measures-spec = tie.close (tie.spec gives-requires returns gives-requires-2 returns-2)
+measures-spec = tie.close (tie.spec (λ c κs. search needs) returns (λ c κs. search needs) returns-2)

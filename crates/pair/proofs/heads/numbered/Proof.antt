@@ -7,14 +7,8 @@ use Rattle.pair.proofs.PlaceLaws.{big-here}
 use Rattle.pair.proofs.heads.numbered.Statement.{statement}
 use Rattle.pair.proofs.heads.numbered.Tie as tie
 
-sub-if1 : tie.Need-sub-if1
-sub-if1 c = search needs
-
 returns : tie.Need-returns
 returns c = let a = c .before .before .args in short9 (drop (a .at) (a .shp .now)) (a .k) (rw length-drop (c .if1 .taken))
-
-big-requires : tie.Need-big-requires
-big-requires c κs = search needs
 
 returns-2 : tie.Need-returns-2
 returns-2 c =
@@ -29,4 +23,4 @@ returns-3 c =
     last9 (drop (a .at) (a .shp .now)) (a .k) (rw length-drop (c .before .before .if1 .left)) (big-here (a .at) (a .shp .now) ∙ (sym r ∙ c .if2 .left))
 
 pub numbered-spec : {M : Type 1} → statement M
-numbered-spec = tie.close (tie.spec sub-if1 returns big-requires returns-2 returns-3)
+numbered-spec = tie.close (tie.spec (λ c. search needs) returns (λ c κs. search needs) returns-2 returns-3)

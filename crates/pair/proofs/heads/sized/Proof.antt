@@ -8,10 +8,10 @@ use lib.Dec.{eqb}
 use borrow.Author.Needs.{needs}
 use lib.ListN.{length, drop}
 use borrow.Author.Tests.{not-true, not-false}
+use Rattle.format.specs.Lengths.{formulaWords}
 use Rattle.rules.specs.Rules.{wordsOf, littleAt}
 use Rattle.pair.specs.declared.plans.Plan.{Plan}
 use Rattle.pair.specs.Plans.{hasParts, takenFrom}
-use Rattle.pair.specs.Verdicts.{formulaWords}
 use Rattle.pair.proofs.HeadLaws.{few-alone, plain13, few13, parts13, points13, last13}
 use Rattle.pair.proofs.PlaceLaws.{big-drop, little-drop}
 use Rattle.pair.proofs.heads.sized.Statement.{statement}
@@ -42,12 +42,6 @@ n-is c =
 
 abbrev by-plan : Plan → ℕ → ℕ → ℕ → Bool
 by-plan plan p n words = eqb words (formulaWords (plan .lengths .without) p n) || eqb words (formulaWords (plan .lengths .with) p n)
-
-add-big : tie.Need-add-big
-add-big c = search needs
-
-big-requires : tie.Need-big-requires
-big-requires c κs = search needs
 
 measures-requires : tie.Need-measures-requires
 measures-requires c κs =
@@ -108,8 +102,8 @@ pub sized-spec : {M : Type 1} → statement M
 sized-spec =
     tie.close
     (tie.spec
-    add-big
-    big-requires
+    (λ c. search needs)
+    (λ c κs. search needs)
     measures-requires
     returns
     returns-2

@@ -5,9 +5,6 @@ use Rattle.pair.proofs.Turns.{end-some}
 use Rattle.pair.proofs.leaves.end_of.Statement.{statement}
 use Rattle.pair.proofs.leaves.end_of.Tie as tie
 
-little-requires : tie.Need-little-requires
-little-requires c κs = search needs
-
 returns : tie.Need-returns
 returns c = record { value = rw (c .if1 .taken) refl; small = search needs }
 
@@ -20,4 +17,4 @@ returns-2 c =
     }
 
 pub end-of-spec : {M : Type 1} → statement M
-end-of-spec = tie.close (tie.spec little-requires returns returns-2)
+end-of-spec = tie.close (tie.spec (λ c κs. search needs) returns returns-2)

@@ -7,12 +7,6 @@ use Rattle.pair.proofs.UnitLaws.{doubled}
 use Rattle.pair.proofs.leaves.in_bytes.Statement.{statement}
 use Rattle.pair.proofs.leaves.in_bytes.Tie as tie
 
-cast-t3 : tie.Need-cast-t3
-cast-t3 c = search needs
-
-to-bytes-requires : tie.Need-to-bytes-requires
-to-bytes-requires c κs = search needs
-
 cast-result : tie.Need-cast-result
 cast-result c = rw (doubled _ _ (c .before .before .before .pre) (c .before .before .to-bytes .ensures)) (tt, omega arith)
 
@@ -20,4 +14,4 @@ returns : tie.Need-returns
 returns c = ap natAbs (doubled _ _ (c .before .before .before .pre) (c .before .before .to-bytes .ensures))
 
 pub in-bytes-spec : {M : Type 1} → statement M
-in-bytes-spec = tie.close (tie.spec cast-t3 to-bytes-requires cast-result returns)
+in-bytes-spec = tie.close (tie.spec (λ c. search needs) (λ c κs. search needs) cast-result returns)

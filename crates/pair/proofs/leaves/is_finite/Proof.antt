@@ -2,15 +2,12 @@
 use mathlib.Core.Path.{ap, sym, _∙_}
 use borrow.Author.Needs.{needs}
 use Rattle.format.specs.Numbers.{finite}
-use Rattle.pair.proofs.FiniteLaws.{finite-bits}
+use Rattle.format.proofs.FiniteLaws.{finite-bits}
 use Rattle.pair.proofs.leaves.is_finite.Statement.{statement}
 use Rattle.pair.proofs.leaves.is_finite.Tie as tie
-
-le-number-requires : tie.Need-le-number-requires
-le-number-requires c κs = search needs
 
 returns : tie.Need-returns
 returns c = sym (finite-bits (c .le-number .result)) ∙ ap finite (c .le-number .ensures .0)
 
 pub is-finite-spec : {M : Type 1} → statement M
-is-finite-spec = tie.close (tie.spec le-number-requires returns)
+is-finite-spec = tie.close (tie.spec (λ c κs. search needs) returns)

@@ -16,8 +16,5 @@ sub-result-2 c = omega (arith, c .before .pre (c .if1 .taken))
 returns : tie.Need-returns
 returns c = rw (c .if1 .taken)
 
-returns-2 : tie.Need-returns-2
-returns-2 c = search needs
-
 pub back-doubles-spec : {M : Type 1} → statement M
-back-doubles-spec = tie.close (tie.spec sub-result mul-result sub-result-2 returns returns-2)
+back-doubles-spec = tie.close (tie.spec sub-result mul-result sub-result-2 returns (λ c. search needs))

@@ -17,8 +17,5 @@ little-requires c κs = omega (arith, c .before .before .before .pre (c .before 
 returns-2 : tie.Need-returns-2
 returns-2 c = rw (c .before .before .if1 .taken, le-leb 1 _ (c .before .if2 .left), c .little .ensures .value)
 
-returns-3 : tie.Need-returns-3
-returns-3 c = search needs
-
 pub begins-spec : {M : Type 1} → statement M
-begins-spec = tie.close (tie.spec returns add-little little-requires returns-2 returns-3)
+begins-spec = tie.close (tie.spec returns add-little little-requires returns-2 (λ c. search needs))

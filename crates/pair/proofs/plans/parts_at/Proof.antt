@@ -13,8 +13,5 @@ little-requires c κs = omega (arith, c .before .before .pre (c .if1 .taken))
 returns : tie.Need-returns
 returns c = rw (c .before .if1 .taken) (c .little .ensures)
 
-returns-2 : tie.Need-returns-2
-returns-2 c = search needs
-
 pub parts-at-spec : {M : Type 1} → statement M
-parts-at-spec = tie.close (tie.spec add-little little-requires returns returns-2)
+parts-at-spec = tie.close (tie.spec add-little little-requires returns (λ c. search needs))

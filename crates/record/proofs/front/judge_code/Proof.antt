@@ -6,11 +6,11 @@ use lib.IntN.{ℤ, pos, natAbs}
 use mir.Syntax.{w32}
 use mir.Val.{toZ, ofZ}
 use borrow.Author.Needs.{needs}
-use Rattle.format.specs.Kinds.{kindOf, known}
+use Rattle.format.specs.Kinds.{kindOf, known, kindAt}
 use Rattle.format.specs.Lengths.{contentOf}
 use Rattle.format.proofs.SignLaws.{back}
-use Rattle.record.specs.Reading.{kindAt}
-use Rattle.record.proofs.FrontLaws.{known-is, kind-at, known-casts, taken-no, taken-yes, zero-fits, same-code, other-code, wanted-unknown, wanted-not, wanted-null, wanted-well}
+use Rattle.format.proofs.UnitLaws.{bits-same, bits-differ}
+use Rattle.record.proofs.FrontLaws.{known-is, kind-at, known-casts, taken-no, taken-yes, zero-fits, wanted-unknown, wanted-not, wanted-null, wanted-well}
 use Rattle.record.proofs.front.judge_code.Statement.{statement}
 use Rattle.record.proofs.front.judge_code.Tie as tie
 
@@ -31,15 +31,6 @@ kind-here c = kind-at _ _ _ (kind-found (c .before .before)) (c .enum-told .give
 content-found : (c : tie.After-lengths-of) → c .lengths-of .result ≡ contentOf (natAbs (c .before .before .before .before .args .code))
 content-found c = c .lengths-of .ensures ∙ ap (λ (z : ℤ). contentOf (natAbs z)) (code-back (c .before .before .before .before))
 
-find-kind-requires : tie.Need-find-kind-requires
-find-kind-requires c κs = search needs
-
-enum-told : tie.Need-enum-told
-enum-told c = search needs
-
-enum-told-2 : tie.Need-enum-told-2
-enum-told-2 c = search needs
-
 returns : tie.Need-returns
 returns c =
     let s = c .before .before .before in
@@ -49,15 +40,6 @@ cast-lengths-of : tie.Need-cast-lengths-of
 cast-lengths-of c =
     let s = c .before .before .before in
     known-casts (s .args .code) _ (kind-here c) (s .fits .code)
-
-lengths-of-requires : tie.Need-lengths-of-requires
-lengths-of-requires c κs = search needs
-
-enum-told-3 : tie.Need-enum-told-3
-enum-told-3 c = search needs
-
-enum-told-4 : tie.Need-enum-told-4
-enum-told-4 c = search needs
 
 returns-2 : tie.Need-returns-2
 returns-2 c =
@@ -71,27 +53,27 @@ returns-3 c =
     let s = l .before .before .before .before in
     rw (code-back s)
     (wanted-null (s .args .code) (is-known (l .before)) (taken-yes (s .args .code) _ (kind-here (l .before)) _ _ (content-found l) (c .before .enum-told3 .given .1) .0)
-    (same-code (s .args .code) (pos 0) (s .fits .code) zero-fits (c .if1 .taken)))
+    (bits-same (s .args .code) (pos 0) (s .fits .code) zero-fits (c .if1 .taken)))
 
 returns-4 : tie.Need-returns-4
 returns-4 c =
     let l = c .before .before .before in
     let s = l .before .before .before .before in
     wanted-well (s .args .code) (is-known (l .before)) (taken-yes (s .args .code) _ (kind-here (l .before)) _ _ (content-found l) (c .before .enum-told3 .given .1) .0)
-    (other-code (s .args .code) (pos 0) (c .if1 .left))
+    (bits-differ (s .args .code) (pos 0) (c .if1 .left))
 
 pub judge-code-spec : {M : Type 1} → statement M
 judge-code-spec =
     tie.close
     (tie.spec
-    find-kind-requires
-    enum-told
-    enum-told-2
+    (λ c κs. search needs)
+    (λ c. search needs)
+    (λ c. search needs)
     returns
     cast-lengths-of
-    lengths-of-requires
-    enum-told-3
-    enum-told-4
+    (λ c κs. search needs)
+    (λ c. search needs)
+    (λ c. search needs)
     returns-2
     returns-3
     returns-4)

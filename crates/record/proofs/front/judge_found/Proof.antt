@@ -7,12 +7,12 @@ use mir.Syntax.{w32, w64}
 use mir.Val.{SFits, toZ, ofZ}
 use mir.ValLaws.{toZ-ofZ}
 use borrow.Author.Needs.{needs}
-use Rattle.format.specs.Kinds.{kindOf, known}
+use Rattle.format.specs.Kinds.{kindOf, known, kindAt}
 use Rattle.format.specs.Lengths.{contentOf}
 use Rattle.format.proofs.SignLaws.{back}
 use Rattle.record.specs.declared.front.Judged.{Judged}
 use Rattle.record.specs.declared.front.Judged.the-variants as JudgedIs
-use Rattle.record.specs.Reading.{codeIn, kindAt, mismatchTests}
+use Rattle.record.specs.Reading.{codeIn, mismatchTests}
 use Rattle.record.specs.Steps.{Judges, Held}
 use Rattle.record.proofs.FrontLaws.{known-is, kind-at, known-casts, taken-no, taken-yes, cut, found-unknown, size-left, found-other, found-not, found-well}
 use Rattle.record.proofs.SizeLaws.{too-low, too-high, held}
@@ -75,18 +75,6 @@ returns c =
     let s = c .before .before in
     cut (s .args .wanted) (s .args .size) (s .args .s .now) (c .if1 .taken)
 
-le-i32-at-requires : tie.Need-le-i32-at-requires
-le-i32-at-requires c κs = search needs
-
-find-kind-requires : tie.Need-find-kind-requires
-find-kind-requires c κs = search needs
-
-enum-known-kind : tie.Need-enum-known-kind
-enum-known-kind c = search needs
-
-enum-told : tie.Need-enum-told
-enum-told c = search needs
-
 returns-2 : tie.Need-returns-2
 returns-2 c =
     let k = c .before .before in
@@ -108,12 +96,6 @@ returns-4 c =
     size-left (s .args .wanted) (s .args .size) (s .args .s .now) (k .before .before .before .before .before .if1 .left) (is-known k)
     (too-high (s .args .size .0) (rw (size-back s) at (c .if3 .taken)))
 
-judge-match-requires : tie.Need-judge-match-requires
-judge-match-requires c κs = search needs
-
-enum-known-r : tie.Need-enum-known-r
-enum-known-r c = search needs
-
 returns-5 : tie.Need-returns-5
 returns-5 c =
     let j = c .before .before .before in
@@ -122,23 +104,11 @@ returns-5 c =
     found-other (s .args .wanted) (s .args .size) (s .args .s .now) (k .before .before .before .before .before .if1 .left) (is-known k) (is-held (j .before)) _
     (judged j (JudgedIs.Refused (c .before .r .given .0 .0)) (c .before .r .given .1))
 
-enum-told-2 : tie.Need-enum-told-2
-enum-told-2 c = search needs
-
 cast-lengths-of : tie.Need-cast-lengths-of
 cast-lengths-of c =
     let k = c .before .before .before .before .before .before in
     let r = k .before .before .before .before .le-i32-at in
     known-casts (r .result) _ (ap kindAt (r .ensures) ∙ kind-here k) (record { sfits = r .ok })
-
-lengths-of-requires : tie.Need-lengths-of-requires
-lengths-of-requires c κs = search needs
-
-enum-told-3 : tie.Need-enum-told-3
-enum-told-3 c = search needs
-
-enum-known-lengths : tie.Need-enum-known-lengths
-enum-known-lengths c = search needs
 
 returns-6 : tie.Need-returns-6
 returns-6 c =
@@ -169,20 +139,20 @@ judge-found-spec =
     tie.close
     (tie.spec
     returns
-    le-i32-at-requires
-    find-kind-requires
-    enum-known-kind
-    enum-told
+    (λ c κs. search needs)
+    (λ c κs. search needs)
+    (λ c. search needs)
+    (λ c. search needs)
     returns-2
     returns-3
     returns-4
-    judge-match-requires
-    enum-known-r
+    (λ c κs. search needs)
+    (λ c. search needs)
     returns-5
-    enum-told-2
+    (λ c. search needs)
     cast-lengths-of
-    lengths-of-requires
-    enum-told-3
-    enum-known-lengths
+    (λ c κs. search needs)
+    (λ c. search needs)
+    (λ c. search needs)
     returns-6
     returns-7)

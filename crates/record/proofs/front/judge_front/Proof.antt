@@ -12,18 +12,6 @@ use Rattle.record.proofs.front.judge_front.Tie as tie
 judged : (c : tie.After-judge-wanted) (r : Judged) → c .judge-wanted .result ≡ r → Judges (wantedTests (c .before .before .args .wanted)) r
 judged c r e = subst (λ (x : Judged). Judges (wantedTests (c .before .before .args .wanted)) x) e (c .judge-wanted .ensures)
 
-judge-wanted-requires : tie.Need-judge-wanted-requires
-judge-wanted-requires c κs = search needs
-
-enum-known-r : tie.Need-enum-known-r
-enum-known-r c = search needs
-
-enum-told : tie.Need-enum-told
-enum-told c = search needs
-
-judge-found-requires : tie.Need-judge-found-requires
-judge-found-requires c κs = search needs
-
 returns : tie.Need-returns
 returns c =
     let j = c .before .before .before in
@@ -39,4 +27,10 @@ returns-2 c =
 pub judge-front-spec : {M : Type 1} → statement M
 judge-front-spec =
     tie.close
-    (tie.spec judge-wanted-requires enum-known-r enum-told judge-found-requires returns returns-2)
+    (tie.spec
+    (λ c κs. search needs)
+    (λ c. search needs)
+    (λ c. search needs)
+    (λ c κs. search needs)
+    returns
+    returns-2)

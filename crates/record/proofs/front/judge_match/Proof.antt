@@ -4,22 +4,17 @@ use mir.Syntax.{w32}
 use mir.Val.{SFits}
 use borrow.Author.Needs.{needs}
 use Rattle.format.proofs.SignLaws.{back}
+use Rattle.format.proofs.UnitLaws.{bits-same, bits-differ}
 use Rattle.record.specs.declared.Wanted.{Wanted}
 use Rattle.record.specs.declared.RecordAnswer.the-variants as Is
 use Rattle.record.specs.Reading.{mismatchTests}
 use Rattle.record.specs.Steps.{Passes, Refuses}
-use Rattle.record.proofs.FrontLaws.{same-code, other-code, mismatched, matched}
+use Rattle.record.proofs.FrontLaws.{mismatched, matched}
 use Rattle.record.proofs.front.judge_match.Statement.{statement}
 use Rattle.record.proofs.front.judge_match.Tie as tie
 
 code-fits : (c : tie.After-known-told) → SFits w32 (c .before .wanted .given .0 .0)
 code-fits c = record { sfits = c .known-told .given .0 .1 }
-
-enum-told : tie.Need-enum-told
-enum-told c = search needs
-
-enum-known-wanted : tie.Need-enum-known-wanted
-enum-known-wanted c = search needs
 
 returns : tie.Need-returns
 returns c = subst (λ (w : Wanted). Passes (mismatchTests w (c .before .before .args .found))) (sym (c .enum-told .given .1)) (λ a. refl)
@@ -29,7 +24,7 @@ returns-2 c =
     let w = c .before .before in
     let s = w .before .before in
     subst (λ (x : Wanted). Passes (mismatchTests x (s .args .found))) (sym (w .wanted .given .1))
-    (matched (w .wanted .given .0 .0) (s .args .found) (same-code (w .wanted .given .0 .0) (s .args .found) (code-fits (c .before)) (s .fits .found) (c .if1 .taken)))
+    (matched (w .wanted .given .0 .0) (s .args .found) (bits-same (w .wanted .given .0 .0) (s .args .found) (code-fits (c .before)) (s .fits .found) (c .if1 .taken)))
 
 returns-3 : tie.Need-returns-3
 returns-3 c =
@@ -38,7 +33,7 @@ returns-3 c =
     let z = w .wanted .given .0 .0 in
     rw (back w32 z (code-fits (c .before) .sfits), back w32 (s .args .found) (s .fits .found .sfits))
     (subst (λ (x : Wanted). Refuses (mismatchTests x (s .args .found)) (Is.Mismatch z (s .args .found))) (sym (w .wanted .given .1))
-    (mismatched z (s .args .found) (other-code z (s .args .found) (c .if1 .left))))
+    (mismatched z (s .args .found) (bits-differ z (s .args .found) (c .if1 .left))))
 
 pub judge-match-spec : {M : Type 1} → statement M
-judge-match-spec = tie.close (tie.spec enum-told enum-known-wanted returns returns-2 returns-3)
+judge-match-spec = tie.close (tie.spec (λ c. search needs) (λ c. search needs) returns returns-2 returns-3)

@@ -13,15 +13,6 @@ use Rattle.record.proofs.front.judge_wanted.Tie as tie
 code-fits : (c : tie.After-known-told) → SFits w32 (c .before .wanted .given .0 .0)
 code-fits c = record { sfits = c .known-told .given .0 .1 }
 
-enum-told : tie.Need-enum-told
-enum-told c = search needs
-
-enum-known-wanted : tie.Need-enum-known-wanted
-enum-known-wanted c = search needs
-
-judge-code-requires : tie.Need-judge-code-requires
-judge-code-requires c κs = search needs
-
 returns : tie.Need-returns
 returns c = subst (λ (w : Wanted). Passes (wantedTests w)) (sym (c .enum-told .given .1)) (λ a. refl)
 
@@ -32,4 +23,4 @@ returns-2 c =
 
 pub judge-wanted-spec : {M : Type 1} → statement M
 judge-wanted-spec =
-    tie.close (tie.spec enum-told enum-known-wanted judge-code-requires returns returns-2)
+    tie.close (tie.spec (λ c. search needs) (λ c. search needs) (λ c κs. search needs) returns returns-2)

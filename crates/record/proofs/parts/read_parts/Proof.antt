@@ -10,10 +10,10 @@ use Rattle.format.proofs.SignLaws.{back}
 use Rattle.multipart.specs.declared.CountsAnswer.{CountsAnswer}
 use Rattle.multipart.specs.declared.CountsAnswer.the-variants as CountsIs
 use Rattle.multipart.specs.Answers.{saidCounts, countsOf}
+use Rattle.multipart.proofs.NearLaws.{offset, counts-offset}
 use Rattle.record.specs.declared.sizes.Sized.{Sized}
 use Rattle.record.specs.declared.sizes.Sized.the-variants as SizedIs
 use Rattle.record.specs.Steps.{two, Sizes}
-use Rattle.record.proofs.NearLaws.{offset, counts-offset}
 use Rattle.record.proofs.PartsLaws.{answered, counts-short, counts-size, size-wrong, size-settles, reads-as}
 use Rattle.record.proofs.parts.read_parts.Statement.{statement}
 use Rattle.record.proofs.parts.read_parts.Tie as tie
@@ -35,45 +35,15 @@ counted c = told (c .before .before) (CountsIs.Are (c .p .given .0 .0) (c .p .gi
 sized : (c : tie.After-judge-size) (r : Sized) → c .judge-size .result ≡ r → Sizes (e1 (c .before .before .before .before) .args .k) (e1 (c .before .before .before .before) .args .size) (two (c .before .before .p .given .0 .0) (c .before .before .p .given .0 .1 .0)) r
 sized c r e = subst (λ (x : Sized). Sizes (e1 (c .before .before .before .before) .args .k) (e1 (c .before .before .before .before) .args .size) (two (c .before .before .p .given .0 .0) (c .before .before .p .given .0 .1 .0)) x) e (c .judge-size .ensures)
 
-read-counts-requires : tie.Need-read-counts-requires
-read-counts-requires c κs = search needs
-
-enum-known-at : tie.Need-enum-known-at
-enum-known-at c = search needs
-
 add-t16 : tie.Need-add-t16
 add-t16 c =
     let r = c .before .before .before in
     record { fits = omega (arith, near r (CountsIs.Short (c .before .at .given .0 .0)) (c .before .at .given .1), e1 r .good .1 .1 .1 .1 .0 .1) }
 
-enum-known-at-2 : tie.Need-enum-known-at-2
-enum-known-at-2 c = search needs
-
 add-t17 : tie.Need-add-t17
 add-t17 c =
     let r = c .before .before .before in
     record { fits = omega (arith, near r (CountsIs.Size (c .before .at2 .given .0 .0)) (c .before .at2 .given .1), e1 r .good .1 .1 .1 .1 .0 .1) }
-
-enum-known-p : tie.Need-enum-known-p
-enum-known-p c = search needs
-
-judge-size-requires : tie.Need-judge-size-requires
-judge-size-requires c κs = search needs
-
-enum-told : tie.Need-enum-told
-enum-told c = search needs
-
-read-rest-requires : tie.Need-read-rest-requires
-read-rest-requires c κs = search needs
-
-enum-told-2 : tie.Need-enum-told-2
-enum-told-2 c = search needs
-
-read-rest-requires-2 : tie.Need-read-rest-requires-2
-read-rest-requires-2 c κs = search needs
-
-enum-told-3 : tie.Need-enum-told-3
-enum-told-3 c = search needs
 
 returns : tie.Need-returns
 returns c =
@@ -89,18 +59,6 @@ returns-2 c =
     answered _ (a .args .k .z) (a .args .b .now) (a .args .counts .now) (a .args .xy .now) (a .args .zs .now) (a .args .ms .now) _
     (counts-size (a .args .code) (a .args .k) (a .args .size) (a .args .b .now) (length (a .args .counts .now)) (length (a .args .xy .now)) (length (a .args .zs .now)) (length (a .args .ms .now)) _ (told r (CountsIs.Size (c .before .at2 .given .0 .0)) (c .before .at2 .given .1)))
 
-same-length : tie.Need-same-length
-same-length c = search needs
-
-same-length-2 : tie.Need-same-length-2
-same-length-2 c = search needs
-
-same-length-3 : tie.Need-same-length-3
-same-length-3 c = search needs
-
-same-length-4 : tie.Need-same-length-4
-same-length-4 c = search needs
-
 returns-3 : tie.Need-returns-3
 returns-3 c =
     let j = c .before .before .before .before .before .before .before .before .before .before .before .before .before .before .before in
@@ -110,18 +68,6 @@ returns-3 c =
     reads-as (a .args .code) _ false _ (a .args .k .z) (a .args .b .now) (a .args .counts .now) (a .args .xy .now) (a .args .zs .now) (a .args .ms .now) _ _ _ _ _ (back w32 (a .args .code) (a .fits .code .sfits))
     (size-settles (a .args .code) (a .args .k) (a .args .size) (a .args .b .now) (length (a .args .counts .now)) (length (a .args .xy .now)) (length (a .args .zs .now)) (length (a .args .ms .now)) (q .p .given .0 .0) (q .p .given .0 .1 .0) (counted q) false (z .0) (z .1))
     (c .before .before .before .before .before .before .before .before .read-rest .ensures)
-
-same-length-5 : tie.Need-same-length-5
-same-length-5 c = search needs
-
-same-length-6 : tie.Need-same-length-6
-same-length-6 c = search needs
-
-same-length-7 : tie.Need-same-length-7
-same-length-7 c = search needs
-
-same-length-8 : tie.Need-same-length-8
-same-length-8 c = search needs
 
 returns-4 : tie.Need-returns-4
 returns-4 c =
@@ -145,28 +91,28 @@ pub read-parts-spec : {M : Type 1} → statement M
 read-parts-spec =
     tie.close
     (tie.spec
-    read-counts-requires
-    enum-known-at
+    (λ c κs. search needs)
+    (λ c. search needs)
     add-t16
-    enum-known-at-2
+    (λ c. search needs)
     add-t17
-    enum-known-p
-    judge-size-requires
-    enum-told
-    read-rest-requires
-    enum-told-2
-    read-rest-requires-2
-    enum-told-3
+    (λ c. search needs)
+    (λ c κs. search needs)
+    (λ c. search needs)
+    (λ c κs. search needs)
+    (λ c. search needs)
+    (λ c κs. search needs)
+    (λ c. search needs)
     returns
     returns-2
-    same-length
-    same-length-2
-    same-length-3
-    same-length-4
+    (λ c. search needs)
+    (λ c. search needs)
+    (λ c. search needs)
+    (λ c. search needs)
     returns-3
-    same-length-5
-    same-length-6
-    same-length-7
-    same-length-8
+    (λ c. search needs)
+    (λ c. search needs)
+    (λ c. search needs)
+    (λ c. search needs)
     returns-4
     returns-5)

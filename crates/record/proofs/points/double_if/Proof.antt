@@ -1,13 +1,7 @@
 -- `record::points::double_if` meets its contract, by the flag.
-use mathlib.Core.Path.{_≡_, refl}
-use lib.Ieee.{binary64, ofBits, ofInt}
-use lib.IntN.{pos}
+use Rattle.format.proofs.NumberLaws.{zero-bits}
 use Rattle.record.proofs.points.double_if.Statement.{statement}
 use Rattle.record.proofs.points.double_if.Tie as tie
-
-zero-bits : ofBits binary64 0 ≡ ofInt binary64 (pos 0)
-unfolding ofBits ofInt
-zero-bits = refl
 
 le-f64-at-requires : tie.Need-le-f64-at-requires
 le-f64-at-requires c κs = rw (c .if1 .taken) at (c .before .before .pre)

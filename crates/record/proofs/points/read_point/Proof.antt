@@ -8,26 +8,11 @@ use Rattle.record.proofs.PointLaws.{other-size, point-cut, point-whole}
 use Rattle.record.proofs.points.read_point.Statement.{statement}
 use Rattle.record.proofs.points.read_point.Tie as tie
 
-has-words-requires : tie.Need-has-words-requires
-has-words-requires c κs = search needs
-
 returns : tie.Need-returns
 returns c =
     let h = c .before in
     let a = h .before .before .before in
     other-size (a .args .k) (a .args .l) (a .args .size) _ (a .pre .3) (sym (not-true _ (c .if1 .taken)) ∙ h .has-words .ensures)
-
-point-end-requires : tie.Need-point-end-requires
-point-end-requires c κs = search needs
-
-sub-t11 : tie.Need-sub-t11
-sub-t11 c = search needs
-
-mul-t13 : tie.Need-mul-t13
-mul-t13 c = search needs
-
-add-t14 : tie.Need-add-t14
-add-t14 c = search needs
 
 returns-2 : tie.Need-returns-2
 returns-2 c =
@@ -49,12 +34,12 @@ pub read-point-spec : {M : Type 1} → statement M
 read-point-spec =
     tie.close
     (tie.spec
-    has-words-requires
+    (λ c κs. search needs)
     returns
-    point-end-requires
-    sub-t11
-    mul-t13
-    add-t14
+    (λ c κs. search needs)
+    (λ c. search needs)
+    (λ c. search needs)
+    (λ c. search needs)
     returns-2
     point-at-requires
     returns-3)

@@ -10,18 +10,6 @@ use Rattle.record.proofs.sizes.has_words.Tie as tie
 size-fits : (c : tie.Start) → SFits w64 (c .args .size .0)
 size-fits c = search needs
 
-content-words-requires : tie.Need-content-words-requires
-content-words-requires c κs = search needs
-
-enum-told : tie.Need-enum-told
-enum-told c = search needs
-
-enum-known-words : tie.Need-enum-known-words
-enum-known-words c = search needs
-
-to-bytes-requires : tie.Need-to-bytes-requires
-to-bytes-requires c κs = search needs
-
 returns : tie.Need-returns
 returns c =
     let s = c .before .before .before in
@@ -37,9 +25,9 @@ pub has-words-spec : {M : Type 1} → statement M
 has-words-spec =
     tie.close
     (tie.spec
-    content-words-requires
-    enum-told
-    enum-known-words
-    to-bytes-requires
+    (λ c κs. search needs)
+    (λ c. search needs)
+    (λ c. search needs)
+    (λ c κs. search needs)
     returns
     returns-2)

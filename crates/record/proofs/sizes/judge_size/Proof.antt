@@ -5,9 +5,6 @@ use Rattle.record.proofs.SizeLaws.{size-with, size-plain, size-without,
 use Rattle.record.proofs.sizes.judge_size.Statement.{statement}
 use Rattle.record.proofs.sizes.judge_size.Tie as tie
 
-has-words-requires : tie.Need-has-words-requires
-has-words-requires c κs = search needs
-
 returns : tie.Need-returns
 returns c =
     let h = c .before .before in
@@ -19,9 +16,6 @@ returns-2 c =
     let h = c .before .before in
     let a = h .before .before .before in
     size-plain (a .args .k) (a .args .l) (a .args .size) _ _ (a .pre .1) (sym (c .before .if1 .taken) ∙ h .has-words .ensures) (c .if2 .left)
-
-has-words-requires-2 : tie.Need-has-words-requires-2
-has-words-requires-2 c κs = search needs
 
 returns-3 : tie.Need-returns-3
 returns-3 c =
@@ -39,5 +33,4 @@ returns-4 c =
 
 pub judge-size-spec : {M : Type 1} → statement M
 judge-size-spec =
-    tie.close
-    (tie.spec has-words-requires returns returns-2 has-words-requires-2 returns-3 returns-4)
+    tie.close (tie.spec (λ c κs. search needs) returns returns-2 (λ c κs. search needs) returns-3 returns-4)

@@ -6,12 +6,6 @@ use Rattle.writer.proofs.BoxLaws.{zero-is, getD-within}
 use Rattle.writer.proofs.boxes.at_or_zero.Statement.{statement}
 use Rattle.writer.proofs.boxes.at_or_zero.Tie as tie
 
-mul-result : tie.Need-mul-result
-mul-result c = search needs
-
-shared-slice-read-result : tie.Need-shared-slice-read-result
-shared-slice-read-result c = search needs
-
 returns : tie.Need-returns
 returns c = let a = c .before .before .args in getD-within (a .s .now) (a .i) (c .before .if1 .taken)
 
@@ -19,4 +13,4 @@ returns-2 : tie.Need-returns-2
 returns-2 c = let a = c .before .args in zero-is ∙ sym (List·getD-eq-default (a .s .now) _ (c .if1 .left))
 
 pub at-or-zero-spec : {M : Type 1} → statement M
-at-or-zero-spec = tie.close (tie.spec mul-result shared-slice-read-result returns returns-2)
+at-or-zero-spec = tie.close (tie.spec (λ c. search needs) (λ c. search needs) returns returns-2)

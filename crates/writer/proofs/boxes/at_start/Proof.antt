@@ -3,12 +3,6 @@ use borrow.Author.Needs.{needs}
 use Rattle.writer.proofs.boxes.at_start.Statement.{statement}
 use Rattle.writer.proofs.boxes.at_start.Tie as tie
 
-double-requires : tie.Need-double-requires
-double-requires c κs = search needs
-
-double-requires-2 : tie.Need-double-requires-2
-double-requires-2 c κs = search needs
-
 returns : tie.Need-returns
 returns c = rw (← c .before .before .double .ensures, ← c .double2 .ensures, c .before .if1 .taken)
 
@@ -16,4 +10,4 @@ returns-2 : tie.Need-returns-2
 returns-2 c = rw (← c .before .double .ensures, c .if1 .left)
 
 pub at-start-spec : {M : Type 1} → statement M
-at-start-spec = tie.close (tie.spec double-requires double-requires-2 returns returns-2)
+at-start-spec = tie.close (tie.spec (λ c κs. search needs) (λ c κs. search needs) returns returns-2)

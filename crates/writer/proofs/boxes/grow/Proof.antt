@@ -3,43 +3,30 @@ use borrow.Author.Needs.{needs}
 use Rattle.writer.proofs.boxes.grow.Statement.{statement}
 use Rattle.writer.proofs.boxes.grow.Tie as tie
 
-f64-min-requires : tie.Need-f64-min-requires
-f64-min-requires c κs = search needs
-
-f64-min-requires-2 : tie.Need-f64-min-requires-2
-f64-min-requires-2 c κs = search needs
-
-f64-max-requires : tie.Need-f64-max-requires
-f64-max-requires c κs = search needs
-
-f64-max-requires-2 : tie.Need-f64-max-requires-2
-f64-max-requires-2 c κs = search needs
-
-f64-min-requires-3 : tie.Need-f64-min-requires-3
-f64-min-requires-3 c κs = search needs
-
-f64-max-requires-3 : tie.Need-f64-max-requires-3
-f64-max-requires-3 c κs = search needs
-
-f64-min-requires-4 : tie.Need-f64-min-requires-4
-f64-min-requires-4 c κs = search needs
-
-f64-max-requires-4 : tie.Need-f64-max-requires-4
-f64-max-requires-4 c κs = search needs
-
 returns : tie.Need-returns
-returns c = cc
+returns c =
+    λ i.
+    record {
+      xmin = c .before .before .before .before .before .before .before .f64-min .ensures i;
+      ymin = c .before .before .before .before .before .before .f64-min2 .ensures i;
+      xmax = c .before .before .before .before .before .f64-max .ensures i;
+      ymax = c .before .before .before .before .f64-max2 .ensures i;
+      zmin = c .before .before .before .f64-min3 .ensures i;
+      zmax = c .before .before .f64-max3 .ensures i;
+      mmin = c .before .f64-min4 .ensures i;
+      mmax = c .f64-max4 .ensures i;
+    }
 
 pub grow-spec : {M : Type 1} → statement M
 grow-spec =
     tie.close
     (tie.spec
-    f64-min-requires
-    f64-min-requires-2
-    f64-max-requires
-    f64-max-requires-2
-    f64-min-requires-3
-    f64-max-requires-3
-    f64-min-requires-4
-    f64-max-requires-4
+    (λ c κs. search needs)
+    (λ c κs. search needs)
+    (λ c κs. search needs)
+    (λ c κs. search needs)
+    (λ c κs. search needs)
+    (λ c κs. search needs)
+    (λ c κs. search needs)
+    (λ c κs. search needs)
     returns)

@@ -4,11 +4,8 @@ use Rattle.writer.proofs.BoxLaws.{zero-is}
 use Rattle.writer.proofs.boxes.where_set.Statement.{statement}
 use Rattle.writer.proofs.boxes.where_set.Tie as tie
 
-returns : tie.Need-returns
-returns c = search needs
-
 returns-2 : tie.Need-returns-2
 returns-2 c = rw (c .if1 .left) zero-is
 
 pub where-set-spec : {M : Type 1} → statement M
-where-set-spec = tie.close (tie.spec returns returns-2)
+where-set-spec = tie.close (tie.spec (λ c. search needs) returns-2)

@@ -27,15 +27,6 @@ kind-refused c =
     subst (λ (z : ℤ). KindRefused (s .args .state) z (c .answer .given .0 .0)) (toZ-ofZ w32 _ (s .fits .code))
     (subst (JudgesKind (s .args .state) _) (c .answer .given .1) (c .before .before .judge-kind .ensures))
 
-judge-kind-requires : tie.Need-judge-kind-requires
-judge-kind-requires c κs = search needs
-
-enum-known-answer : tie.Need-enum-known-answer
-enum-known-answer c = search needs
-
-enum-known-k : tie.Need-enum-known-k
-enum-known-k c = search needs
-
 judge-shape-requires : tie.Need-judge-shape-requires
 judge-shape-requires c κs =
     let k = c .before in
@@ -62,9 +53,9 @@ pub judge-spec : {M : Type 1} → statement M
 judge-spec =
     tie.close
     (tie.spec
-    judge-kind-requires
-    enum-known-answer
-    enum-known-k
+    (λ c κs. search needs)
+    (λ c. search needs)
+    (λ c. search needs)
     judge-shape-requires
     returns
     returns-2)

@@ -7,9 +7,10 @@ use mir.ValLaws.{toZ-ofZ}
 use borrow.Author.Tests.{not-true, not-false}
 use borrow.Author.Needs.{needs}
 use Rattle.format.specs.Units.{sameInt}
+use Rattle.format.proofs.UnitLaws.{bits-same, bits-differ}
 use Rattle.writer.specs.Judging.{lookUp}
 use Rattle.writer.specs.State.{stateFine}
-use Rattle.writer.proofs.JudgeLaws.{zero-yes, zero-no, bits-same, bits-differ, no-state, no-kind, no-taken, no-null, no-match, kind-fine}
+use Rattle.writer.proofs.JudgeLaws.{zero-yes, zero-no, no-state, no-kind, no-taken, no-null, no-match, kind-fine}
 use Rattle.writer.proofs.judge.judge_kind.Statement.{statement}
 use Rattle.writer.proofs.judge.judge_kind.Tie as tie
 
@@ -22,23 +23,8 @@ fine-is c = sym (c .before .state-fine .ensures) ∙ not-false _ (c .if1 .left)
 looked : (c : tie.After-look-up) → lookUp (c .before .before .before .args .code) ≡ c .look-up .result
 looked c = ap lookUp (sym (toZ-ofZ w32 _ (c .before .before .before .fits .code))) ∙ sym (c .look-up .ensures)
 
-state-fine-requires : tie.Need-state-fine-requires
-state-fine-requires c κs = search needs
-
 returns : tie.Need-returns
 returns c = no-state _ _ (sym (c .before .state-fine .ensures) ∙ not-true _ (c .if1 .taken))
-
-look-up-requires : tie.Need-look-up-requires
-look-up-requires c κs = search needs
-
-enum-told : tie.Need-enum-told
-enum-told c = search needs
-
-enum-told-2 : tie.Need-enum-told-2
-enum-told-2 c = search needs
-
-enum-known-k : tie.Need-enum-known-k
-enum-known-k c = search needs
 
 returns-2 : tie.Need-returns-2
 returns-2 c =
@@ -85,12 +71,12 @@ pub judge-kind-spec : {M : Type 1} → statement M
 judge-kind-spec =
     tie.close
     (tie.spec
-    state-fine-requires
+    (λ c κs. search needs)
     returns
-    look-up-requires
-    enum-told
-    enum-told-2
-    enum-known-k
+    (λ c κs. search needs)
+    (λ c. search needs)
+    (λ c. search needs)
+    (λ c. search needs)
     returns-2
     returns-3
     returns-4

@@ -7,13 +7,15 @@ use mir.ValLaws.{toZ-pos}
 use mir.Syntax.{w32}
 use borrow.Author.Needs.{needs}
 use Rattle.format.specs.declared.units.Words.{Words}
-use Rattle.writer.specs.Judging.{naturalOf, wordsOf, formulaWords}
-use Rattle.writer.proofs.LengthLaws.{counted-long, counted-held, long-parts, long-points, long-words, held-words}
+use Rattle.format.specs.Lengths.{formulaWords}
+use Rattle.format.proofs.LengthLaws.{counted-long, counted-held}
+use Rattle.writer.specs.Judging.{naturalOf, wordsOf}
+use Rattle.writer.proofs.LengthLaws.{long-parts, long-points, long-words, held-words}
 use Rattle.writer.proofs.judge.judge_length.Statement.{statement}
 use Rattle.writer.proofs.judge.judge_length.Tie as tie
 
 held : (c : tie.After-content) → let a = c .before .before .before .before .before .args in (formulaWords (a .f) (a .p) (a .n) < 2 ^ 31) × (c .content .given .0 .0 ≡ wordsOf (formulaWords (a .f) (a .p) (a .n)))
-held c = let a = c .before .before .before .before .before .args in counted-held (a .f) (a .p) (a .n) _ (sym (c .before .before .content-words .ensures) ∙ c .content .given .1)
+held c = let a = c .before .before .before .before .before .args in counted-held (a .f) (a .p) (a .n) _ (sym (c .content .given .1) ∙ c .before .before .content-words .ensures)
 
 natural-is : (c : tie.After-natural) → let a = c .before .before .before .before .before .before .before .before .args in c .natural .result ≡ formulaWords (a .f) (a .p) (a .n)
 natural-is c =
@@ -33,27 +35,6 @@ returns c = let a = c .before .args in long-parts (a .f) (a .p) (a .n) (a .words
 returns-2 : tie.Need-returns-2
 returns-2 c = let a = c .before .before .args in long-points (a .f) (a .p) (a .n) (a .words) (omega arith) (omega arith)
 
-cast-content-words : tie.Need-cast-content-words
-cast-content-words c = search needs
-
-cast-content-words-2 : tie.Need-cast-content-words-2
-cast-content-words-2 c = search needs
-
-content-words-requires : tie.Need-content-words-requires
-content-words-requires c κs = search needs
-
-enum-told : tie.Need-enum-told
-enum-told c = search needs
-
-enum-known-content : tie.Need-enum-known-content
-enum-known-content c = search needs
-
-natural-requires : tie.Need-natural-requires
-natural-requires c κs = search needs
-
-words-after-requires : tie.Need-words-after-requires
-words-after-requires c κs = search needs
-
 returns-3 : tie.Need-returns-3
 returns-3 c =
     let a = c .before .before .before .before .before .before .before .before .before .before .args in
@@ -64,7 +45,7 @@ returns-4 : tie.Need-returns-4
 returns-4 c =
     let m = c .before .before in
     let a = m .before .before .before .args in
-    let h : 2 ^ 31 ≤ formulaWords (a .f) (a .p) (a .n) = counted-long (a .f) (a .p) (a .n) (sym (m .content-words .ensures) ∙ c .enum-told .given .1) in
+    let h : 2 ^ 31 ≤ formulaWords (a .f) (a .p) (a .n) = counted-long (a .f) (a .p) (a .n) (sym (c .enum-told .given .1) ∙ m .content-words .ensures) in
     long-words (a .f) (a .p) (a .n) (a .words) (omega arith) (omega arith) (omega arith)
 
 returns-5 : tie.Need-returns-5
@@ -79,13 +60,13 @@ judge-length-spec =
     (tie.spec
     returns
     returns-2
-    cast-content-words
-    cast-content-words-2
-    content-words-requires
-    enum-told
-    enum-known-content
-    natural-requires
-    words-after-requires
+    (λ c. search needs)
+    (λ c. search needs)
+    (λ c κs. search needs)
+    (λ c. search needs)
+    (λ c. search needs)
+    (λ c κs. search needs)
+    (λ c κs. search needs)
     returns-3
     returns-4
     returns-5)

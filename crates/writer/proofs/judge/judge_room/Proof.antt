@@ -6,9 +6,6 @@ use Rattle.writer.proofs.LengthLaws.{no-room, no-entry, has-room}
 use Rattle.writer.proofs.judge.judge_room.Statement.{statement}
 use Rattle.writer.proofs.judge.judge_room.Tie as tie
 
-saturated-requires : tie.Need-saturated-requires
-saturated-requires c κs = search needs
-
 returns : tie.Need-returns
 returns c =
     let a = c .before .before .args in
@@ -34,4 +31,4 @@ returns-4 c =
     has-room (a .size) (a .out) (a .start) (a .entry) h (c .if3 .left)
 
 pub judge-room-spec : {M : Type 1} → statement M
-judge-room-spec = tie.close (tie.spec saturated-requires returns returns-2 returns-3 returns-4)
+judge-room-spec = tie.close (tie.spec (λ c κs. search needs) returns returns-2 returns-3 returns-4)

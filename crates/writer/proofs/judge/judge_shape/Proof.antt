@@ -38,15 +38,6 @@ tables-are c = sym (c .before .before .judge-tables .ensures) ∙ c .n .given .1
 natural-is : (c : tie.After-natural) → c .natural .result ≡ naturalOf (c .before .before .before .before .before .before .before .before .before .before .before .args .state .words .0)
 natural-is c = c .natural .ensures .0 ∙ ap naturalOf (toZ-ofZ w32 _ (words-fit (c .before .before .before .before .before .before .before .before .before .before .before)))
 
-judge-tables-requires : tie.Need-judge-tables-requires
-judge-tables-requires c κs = search needs
-
-enum-known-n : tie.Need-enum-known-n
-enum-known-n c = search needs
-
-enum-told : tie.Need-enum-told
-enum-told c = search needs
-
 returns : tie.Need-returns
 returns c =
     λ b.
@@ -55,18 +46,6 @@ returns c =
     let a = s .args in
     refused-tables (a .state) (lent-of s b) (a .k) (s .pre .1 .0) (s .pre .0) (a .f) (s .pre .1 .1) (a .out) (a .start) (a .entry) (sym (j .judge-tables .ensures) ∙ c .enum-told .given .1)
 
-natural-requires : tie.Need-natural-requires
-natural-requires c κs = search needs
-
-judge-length-requires : tie.Need-judge-length-requires
-judge-length-requires c κs = search needs
-
-enum-known-content : tie.Need-enum-known-content
-enum-known-content c = search needs
-
-enum-told-2 : tie.Need-enum-told-2
-enum-told-2 c = search needs
-
 returns-2 : tie.Need-returns-2
 returns-2 c =
     λ b.
@@ -74,24 +53,6 @@ returns-2 c =
     let s = l .before .before .before .before .before .before .before .before .before .before .before .before in
     let a = s .args in
     refused-long (a .state) (lent-of s b) (a .k) (s .pre .1 .0) (s .pre .0) (a .f) (s .pre .1 .1) (a .out) (a .start) (a .entry) _ (tables-are (l .before .before .before .before .before)) _ (natural-is (l .before)) (sym (l .judge-length .ensures) ∙ c .enum-told2 .given .1)
-
-natural-requires-2 : tie.Need-natural-requires-2
-natural-requires-2 c κs = search needs
-
-mul-size : tie.Need-mul-size
-mul-size c = search needs
-
-add-size : tie.Need-add-size
-add-size c = search needs
-
-judge-room-requires : tie.Need-judge-room-requires
-judge-room-requires c κs = search needs
-
-enum-known-bytes : tie.Need-enum-known-bytes
-enum-known-bytes c = search needs
-
-enum-told-3 : tie.Need-enum-told-3
-enum-told-3 c = search needs
 
 returns-3 : tie.Need-returns-3
 returns-3 c =
@@ -117,20 +78,20 @@ pub judge-shape-spec : {M : Type 1} → statement M
 judge-shape-spec =
     tie.close
     (tie.spec
-    judge-tables-requires
-    enum-known-n
-    enum-told
+    (λ c κs. search needs)
+    (λ c. search needs)
+    (λ c. search needs)
     returns
-    natural-requires
-    judge-length-requires
-    enum-known-content
-    enum-told-2
+    (λ c κs. search needs)
+    (λ c κs. search needs)
+    (λ c. search needs)
+    (λ c. search needs)
     returns-2
-    natural-requires-2
-    mul-size
-    add-size
-    judge-room-requires
-    enum-known-bytes
-    enum-told-3
+    (λ c κs. search needs)
+    (λ c. search needs)
+    (λ c. search needs)
+    (λ c κs. search needs)
+    (λ c. search needs)
+    (λ c. search needs)
     returns-3
     returns-4)

@@ -6,9 +6,6 @@ use Rattle.writer.proofs.TableLaws.{points-most, no-points, no-z, no-m,
 use Rattle.writer.proofs.judge.judge_tables.Statement.{statement}
 use Rattle.writer.proofs.judge.judge_tables.Tie as tie
 
-points-requires : tie.Need-points-requires
-points-requires c κs = search needs
-
 mul-if1 : tie.Need-mul-if1
 mul-if1 c =
     let a = c .before .before .before .before .before .args in
@@ -19,17 +16,11 @@ returns c =
     let a = c .before .before .before .before .before .before .args in
     no-points (a .k) (a .counts .now) (a .xy .now) (a .zs .now) (a .ms .now) _ (c .before .points .ensures) (c .if1 .taken)
 
-where-set-requires : tie.Need-where-set-requires
-where-set-requires c κs = search needs
-
 returns-2 : tie.Need-returns-2
 returns-2 c =
     let p = c .before .before in
     let a = p .before .before .before .before .before .before .args in
     no-z (a .k) (a .counts .now) (a .xy .now) (a .zs .now) (a .ms .now) _ (p .before .points .ensures) (p .if1 .left) _ (c .before .where-set .ensures) (c .if2 .taken)
-
-where-set-requires-2 : tie.Need-where-set-requires-2
-where-set-requires-2 c κs = search needs
 
 returns-3 : tie.Need-returns-3
 returns-3 c =
@@ -49,11 +40,11 @@ pub judge-tables-spec : {M : Type 1} → statement M
 judge-tables-spec =
     tie.close
     (tie.spec
-    points-requires
+    (λ c κs. search needs)
     mul-if1
     returns
-    where-set-requires
+    (λ c κs. search needs)
     returns-2
-    where-set-requires-2
+    (λ c κs. search needs)
     returns-3
     returns-4)

@@ -4,14 +4,8 @@ use borrow.Author.Needs.{needs}
 use Rattle.writer.proofs.judge.points.Statement.{statement}
 use Rattle.writer.proofs.judge.points.Tie as tie
 
-summed-requires : tie.Need-summed-requires
-summed-requires c κs = search needs
-
 returns : tie.Need-returns
 returns c = rw (c .before .if1 .taken) (c .summed .ensures)
-
-add-result : tie.Need-add-result
-add-result c = search needs
 
 returns-2 : tie.Need-returns-2
 returns-2 c = rw (c .before .if1 .left, eq-eqb _ 0 (c .if2 .taken))
@@ -20,4 +14,4 @@ returns-3 : tie.Need-returns-3
 returns-3 c = rw (c .before .if1 .left, ne-eqb _ 0 (c .if2 .left))
 
 pub points-spec : {M : Type 1} → statement M
-points-spec = tie.close (tie.spec summed-requires returns add-result returns-2 returns-3)
+points-spec = tie.close (tie.spec (λ c κs. search needs) returns (λ c. search needs) returns-2 returns-3)

@@ -4,8 +4,9 @@ use Prim.Native.Nat.{_+_, _-_, _≤_, _<_}
 use native.Mathlib.Omega.{arith}
 use lib.ListN.{length, drop}
 use borrow.Author.Needs.{needs}
-use Rattle.layouts.specs.Tables.{sum}
-use Rattle.writer.proofs.LengthLaws.{sum-more, sum-end, over, within}
+use Rattle.format.specs.Shapes.{sum}
+use Rattle.format.proofs.LayoutLaws.{sum-drop}
+use Rattle.writer.proofs.LengthLaws.{sum-end, over, within}
 use Rattle.writer.proofs.judge.summed.Statement.{statement}
 use Rattle.writer.proofs.judge.summed.Tie as tie
 
@@ -18,39 +19,24 @@ abbrev μ-loop : tie.MeasureT-loop
 loop-holds : tie.Need-loop-holds Inv-loop μ-loop
 loop-holds c = (omega arith, omega arith, omega arith)
 
-mul-total : tie.Need-mul-total Inv-loop μ-loop
-mul-total c = search needs
-
-shared-slice-read-total : tie.Need-shared-slice-read-total Inv-loop μ-loop
-shared-slice-read-total c = omega arith
-
 cast-total : tie.Need-cast-total Inv-loop μ-loop
 cast-total c = omega (arith, c .shared-slice-known .given (c .before .before .loop .i))
 
 add-total : tie.Need-add-total Inv-loop μ-loop
 add-total c = omega (arith, c .shared-slice-known .given (c .before .before .loop .i))
 
-add-result : tie.Need-add-result Inv-loop μ-loop
-add-result c = omega arith
-
 returns : tie.Need-returns Inv-loop μ-loop
 returns c =
     let l = c .before .before .before in
     let n = l .before .args .counts .now in
-    let h : l .before .args .most < sum n = omega (arith, sum-more n (l .loop .i) (c .before .before .loop-test .taken), l .loop .inv .2) in
+    let h : l .before .args .most < sum n = omega (arith, sum-drop n (l .loop .i) (c .before .before .loop-test .taken), l .loop .inv .2) in
     over (sum n) (l .before .args .most) h
-
-add-i : tie.Need-add-i Inv-loop μ-loop
-add-i c = omega arith
-
-loop-less : tie.Need-loop-less Inv-loop μ-loop
-loop-less c = omega arith
 
 loop-again : tie.Need-loop-again Inv-loop μ-loop
 loop-again c =
     let l = c .before .before .before in
     let n = l .before .args .counts .now in
-    (omega arith, c .if1 .left, omega (arith, sum-more n (l .loop .i) (c .before .before .loop-test .taken), l .loop .inv .2))
+    (omega arith, c .if1 .left, omega (arith, sum-drop n (l .loop .i) (c .before .before .loop-test .taken), l .loop .inv .2))
 
 returns-2 : tie.Need-returns-2 Inv-loop μ-loop
 returns-2 c =
@@ -67,13 +53,13 @@ summed-spec =
     Inv-loop
     μ-loop
     loop-holds
-    mul-total
-    shared-slice-read-total
+    (λ c. search needs)
+    (λ c. omega arith)
     cast-total
     add-total
-    add-result
+    (λ c. omega arith)
     returns
-    add-i
-    loop-less
+    (λ c. omega arith)
+    (λ c. omega arith)
     loop-again
     returns-2)

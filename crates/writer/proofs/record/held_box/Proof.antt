@@ -9,9 +9,6 @@ use Rattle.writer.proofs.record.held_box.Tie as tie
 kind-fits : (c : tie.Start) → SFits w32 (c .args .state .kind)
 kind-fits c = search needs
 
-start-box-requires : tie.Need-start-box-requires
-start-box-requires c κs = search needs
-
 returns : tie.Need-returns
 returns c = let s = c .before .before .before .before in rw (zero-yes (s .args .state .kind) (kind-fits s .sfits) (c .before .if1 .taken)) (c .start-box .ensures)
 
@@ -19,4 +16,4 @@ returns-2 : tie.Need-returns-2
 returns-2 c = let s = c .before .before .before .before in rw (zero-no (s .args .state .kind) (c .before .if1 .left))
 
 pub held-box-spec : {M : Type 1} → statement M
-held-box-spec = tie.close (tie.spec start-box-requires returns returns-2)
+held-box-spec = tie.close (tie.spec (λ c κs. search needs) returns returns-2)

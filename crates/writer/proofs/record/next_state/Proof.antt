@@ -37,30 +37,6 @@ after-is c =
 number-natural : (c : tie.After-natural3) → let s = c .before .before .before .before .before .before .before .before .before .before .before .before .before .before in c .natural3 .result ≡ naturalOf (s .args .state .number)
 number-natural c = c .natural3 .ensures .0 ∙ ap naturalOf (toZ-ofZ w32 _ (number-fits (c .before .before .before .before .before .before .before .before .before .before .before .before .before .before)))
 
-own-box-requires : tie.Need-own-box-requires
-own-box-requires c κs = search needs
-
-held-box-requires : tie.Need-held-box-requires
-held-box-requires c κs = search needs
-
-grow-requires : tie.Need-grow-requires
-grow-requires c κs = search needs
-
-natural-requires : tie.Need-natural-requires
-natural-requires c κs = search needs
-
-natural-requires-2 : tie.Need-natural-requires-2
-natural-requires-2 c κs = search needs
-
-words-after-requires : tie.Need-words-after-requires
-words-after-requires c κs = search needs
-
-natural-requires-3 : tie.Need-natural-requires-3
-natural-requires-3 c κs = search needs
-
-add-number : tie.Need-add-number
-add-number c = search needs
-
 cast-t17 : tie.Need-cast-t17
 cast-t17 c =
     let s = c .before .before .before .before .before .before .before .before .before .before .before .before .before .before in
@@ -88,14 +64,14 @@ pub next-state-spec : {M : Type 1} → statement M
 next-state-spec =
     tie.close
     (tie.spec
-    own-box-requires
-    held-box-requires
-    grow-requires
-    natural-requires
-    natural-requires-2
-    words-after-requires
-    natural-requires-3
-    add-number
+    (λ c κs. search needs)
+    (λ c κs. search needs)
+    (λ c κs. search needs)
+    (λ c κs. search needs)
+    (λ c κs. search needs)
+    (λ c κs. search needs)
+    (λ c κs. search needs)
+    (λ c. search needs)
     cast-t17
     cast-t19
     returns)

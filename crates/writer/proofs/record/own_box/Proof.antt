@@ -5,17 +5,8 @@ use Rattle.writer.specs.Boxes.{flat}
 use Rattle.writer.proofs.record.own_box.Statement.{statement}
 use Rattle.writer.proofs.record.own_box.Tie as tie
 
-flat-box-requires : tie.Need-flat-box-requires
-flat-box-requires c κs = search needs
-
 returns : tie.Need-returns
 returns c = rw (c .before .if1 .taken) (c .flat-box .ensures)
-
-point-box-requires : tie.Need-point-box-requires
-point-box-requires c κs = search needs
-
-flat-box-requires-2 : tie.Need-flat-box-requires-2
-flat-box-requires-2 c κs = search needs
 
 returns-2 : tie.Need-returns-2
 returns-2 c =
@@ -24,4 +15,10 @@ returns-2 c =
 
 pub own-box-spec : {M : Type 1} → statement M
 own-box-spec =
-    tie.close (tie.spec flat-box-requires returns point-box-requires flat-box-requires-2 returns-2)
+    tie.close
+    (tie.spec
+    (λ c κs. search needs)
+    returns
+    (λ c κs. search needs)
+    (λ c κs. search needs)
+    returns-2)

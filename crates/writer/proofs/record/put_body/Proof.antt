@@ -17,9 +17,6 @@ put-point-requires c κs =
     let a = s .args in
     point-room (a .k) (a .bbox) (a .counts .now) (a .xy .now) (a .zs .now) (a .ms .now) (length (a .out .now)) (s .pre) (not-true _ (c .before .if1 .taken))
 
-same-length : tie.Need-same-length
-same-length c = search needs
-
 returns : tie.Need-returns
 returns c =
     let p = c .before .before in
@@ -27,12 +24,6 @@ returns c =
     let a = s .args in
     p .put-point .ensures
     ∙ ap (λ (l : List ℕ). sets (a .out .now) 0 l) (point-body (a .k) (a .bbox) (a .counts .now) (a .xy .now) (a .zs .now) (a .ms .now) (length (a .out .now)) (s .pre) (not-true _ (p .before .before .if1 .taken)))
-
-write-point-z-shape-requires : tie.Need-write-point-z-shape-requires
-write-point-z-shape-requires c κs = search needs
-
-same-length-2 : tie.Need-same-length-2
-same-length-2 c = search needs
 
 returns-2 : tie.Need-returns-2
 returns-2 c =
@@ -42,12 +33,6 @@ returns-2 c =
     let a = s .args in
     layout-body (a .k) (a .bbox) (a .counts .now) (a .xy .now) (a .zs .now) (a .ms .now) (a .out .now) (s .pre) (not-false _ (i .before .if1 .left)) true true (a .zs .now) (a .ms .now) (i .if2 .taken) (s .pre .z-has-m (i .if2 .taken)) refl refl _ _ (p .write-point-z-shape .ensures)
 
-write-point-m-shape-requires : tie.Need-write-point-m-shape-requires
-write-point-m-shape-requires c κs = search needs
-
-same-length-3 : tie.Need-same-length-3
-same-length-3 c = search needs
-
 returns-3 : tie.Need-returns-3
 returns-3 c =
     let p = c .before .before in
@@ -55,12 +40,6 @@ returns-3 c =
     let s = i .before .before .before .before .before .before .before .before .before in
     let a = s .args in
     layout-body (a .k) (a .bbox) (a .counts .now) (a .xy .now) (a .zs .now) (a .ms .now) (a .out .now) (s .pre) (not-false _ (i .before .before .if1 .left)) false true [] (a .ms .now) (i .before .if2 .left) (i .if3 .taken) (no-z (a .k) (a .bbox) (a .counts .now) (a .xy .now) (a .zs .now) (a .ms .now) (length (a .out .now)) (s .pre) (i .before .if2 .left)) refl _ _ (p .write-point-m-shape .ensures)
-
-write-point-shape-requires : tie.Need-write-point-shape-requires
-write-point-shape-requires c κs = search needs
-
-same-length-4 : tie.Need-same-length-4
-same-length-4 c = search needs
 
 returns-4 : tie.Need-returns-4
 returns-4 c =
@@ -75,14 +54,14 @@ put-body-spec =
     tie.close
     (tie.spec
     put-point-requires
-    same-length
+    (λ c. search needs)
     returns
-    write-point-z-shape-requires
-    same-length-2
+    (λ c κs. search needs)
+    (λ c. search needs)
     returns-2
-    write-point-m-shape-requires
-    same-length-3
+    (λ c κs. search needs)
+    (λ c. search needs)
     returns-3
-    write-point-shape-requires
-    same-length-4
+    (λ c κs. search needs)
+    (λ c. search needs)
     returns-4)

@@ -4,24 +4,6 @@ use Rattle.writer.proofs.StoreLaws.{point-stored}
 use Rattle.writer.proofs.record.put_point.Statement.{statement}
 use Rattle.writer.proofs.record.put_point.Tie as tie
 
-write-doubles-requires : tie.Need-write-doubles-requires
-write-doubles-requires c κs = search needs
-
-write-doubles-requires-2 : tie.Need-write-doubles-requires-2
-write-doubles-requires-2 c κs = search needs
-
-mul-write-doubles : tie.Need-mul-write-doubles
-mul-write-doubles c = search needs
-
-add-write-doubles : tie.Need-add-write-doubles
-add-write-doubles c = search needs
-
-write-doubles-requires-3 : tie.Need-write-doubles-requires-3
-write-doubles-requires-3 c κs = search needs
-
-same-length : tie.Need-same-length
-same-length c = search needs
-
 returns : tie.Need-returns
 returns c =
     let r = c .before .before in
@@ -35,10 +17,10 @@ pub put-point-spec : {M : Type 1} → statement M
 put-point-spec =
     tie.close
     (tie.spec
-    write-doubles-requires
-    write-doubles-requires-2
-    mul-write-doubles
-    add-write-doubles
-    write-doubles-requires-3
-    same-length
+    (λ c κs. search needs)
+    (λ c κs. search needs)
+    (λ c. search needs)
+    (λ c. search needs)
+    (λ c κs. search needs)
+    (λ c. search needs)
     returns)

@@ -12,16 +12,13 @@ use Rattle.format.specs.Encoding.{shapeBytes, twoBig}
 use Rattle.format.specs.Numbers.{little, i32Le}
 use Rattle.writer.specs.Judging.{shapeBy, wordsBy}
 use Rattle.writer.proofs.BodyLaws.{words-least, record-is}
-use Rattle.writer.proofs.ShapeLaws.{agreed, words-are}
+use Rattle.writer.proofs.ShapeLaws.{words-are}
 use Rattle.writer.proofs.StoreLaws.{tail-stored, record-stored}
 use Rattle.writer.proofs.record.put_record.Statement.{statement}
 use Rattle.writer.proofs.record.put_record.Tie as tie
 
 content-fits : (c : tie.Start) → SFits w32 (c .args .content .0)
 content-fits c = search needs
-
-put-two-requires : tie.Need-put-two-requires
-put-two-requires c κs = search needs
 
 put-le-i32-requires : tie.Need-put-le-i32-requires
 put-le-i32-requires c κs = let s = c .before .before .before .before .before .before .before .before .before .before .before in omega (arith, words-least (s .args .k) (s .args .counts .now), s .pre .1 .0)
@@ -31,15 +28,6 @@ sub-put-body c = let s = c .before .before .before .before .before .before .befo
 
 part-put-body-start : tie.Need-part-put-body-start
 part-put-body-start c = let s = c .before .before .before .before .before .before .before .before .before .before .before .before .before .before in omega (arith, words-least (s .args .k) (s .args .counts .now), s .pre .1 .0)
-
-part-put-body-end : tie.Need-part-put-body-end
-part-put-body-end c = search needs
-
-put-body-requires : tie.Need-put-body-requires
-put-body-requires c κs = search needs
-
-same-length : tie.Need-same-length
-same-length c = search needs
 
 returns : tie.Need-returns
 unfolding i32Le
@@ -59,18 +47,18 @@ returns c =
     (tail-stored 12 (q .put-le-i32 .last .0) (r .put-body .last .0) (shapeBytes shape) (r .put-body .ensures))
     ∙ ap (λ (l : List ℕ). sets (a .out .now) 0 l)
     (record-is (a .k) shape (ofZ w32 (a .number)) (wordsBy (a .k) (a .counts .now)) (a .content) (a .code) (s .pre .1 .1 .1)
-    (words-are (a .k) (a .bbox) (a .counts .now) (a .xy .now) (a .zs .now) (a .ms .now) (agreed (a .k) (a .counts .now) (a .xy .now) (a .zs .now) (a .ms .now) (s .pre .0 .agrees)))
+    (words-are (a .k) (a .bbox) (a .counts .now) (a .xy .now) (a .zs .now) (a .ms .now) (s .pre .0 .agrees))
     (s .pre .1 .1 .0))
 
 pub put-record-spec : {M : Type 1} → statement M
 put-record-spec =
     tie.close
     (tie.spec
-    put-two-requires
+    (λ c κs. search needs)
     put-le-i32-requires
     sub-put-body
     part-put-body-start
-    part-put-body-end
-    put-body-requires
-    same-length
+    (λ c. search needs)
+    (λ c κs. search needs)
+    (λ c. search needs)
     returns)

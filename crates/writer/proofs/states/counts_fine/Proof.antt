@@ -10,12 +10,6 @@ returns c = rw (lt-leb 50 _ (c .if1 .taken))
 returns-2 : tie.Need-returns-2
 returns-2 c = rw (le-leb 50 _ (c .before .if1 .left), lt-leb 1 _ (c .if2 .taken))
 
-mul-if3 : tie.Need-mul-if3
-mul-if3 c = search needs
-
-add-if3 : tie.Need-add-if3
-add-if3 c = search needs
-
 returns-3 : tie.Need-returns-3
 returns-3 c = rw (le-leb 50 _ (c .before .before .if1 .left), le-leb 1 _ (c .before .if2 .left), lt-leb _ _ (c .if3 .taken))
 
@@ -30,4 +24,13 @@ returns-6 c = rw (le-leb 50 _ (c .before .before .before .if1 .left), le-leb 1 _
 
 pub counts-fine-spec : {M : Type 1} → statement M
 counts-fine-spec =
-    tie.close (tie.spec returns returns-2 mul-if3 add-if3 returns-3 returns-4 returns-5 returns-6)
+    tie.close
+    (tie.spec
+    returns
+    returns-2
+    (λ c. search needs)
+    (λ c. search needs)
+    returns-3
+    returns-4
+    returns-5
+    returns-6)

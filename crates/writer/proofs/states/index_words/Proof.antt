@@ -12,17 +12,8 @@ use Rattle.writer.proofs.states.index_words.Tie as tie
 natural-is : (c : tie.After-natural) → c .natural .result ≡ naturalOf (c .before .args .number)
 natural-is c = c .natural .ensures .0 ∙ ap naturalOf (toZ-ofZ w32 _ (c .before .fits .number))
 
-natural-requires : tie.Need-natural-requires
-natural-requires c κs = search needs
-
 sub-t3 : tie.Need-sub-t3
 sub-t3 c = omega (arith, natural-is c, c .before .pre .0)
-
-mul-t4 : tie.Need-mul-t4
-mul-t4 c = search needs
-
-add-t5 : tie.Need-add-t5
-add-t5 c = search needs
 
 cast-t6 : tie.Need-cast-t6
 cast-t6 c = record { sfits = omega (arith, natural-is c, c .before .pre .1) }
@@ -32,4 +23,5 @@ returns c = let h : 50 + 4 * (c .natural .result - 1) < 2 ^ 31 = omega (arith, n
     rw (toZ-pos w32 _ h, natural-is c)
 
 pub index-words-spec : {M : Type 1} → statement M
-index-words-spec = tie.close (tie.spec natural-requires sub-t3 mul-t4 add-t5 cast-t6 returns)
+index-words-spec =
+    tie.close (tie.spec (λ c κs. search needs) sub-t3 (λ c. search needs) (λ c. search needs) cast-t6 returns)

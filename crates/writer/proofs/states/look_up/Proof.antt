@@ -12,26 +12,8 @@ use Rattle.writer.proofs.states.look_up.Tie as tie
 found-is : (c : tie.After-find-kind) → kindOf (c .before .args .code) ≡ c .find-kind .result
 found-is c = ap kindOf (sym (toZ-ofZ w32 _ (c .before .fits .code))) ∙ sym (c .find-kind .ensures)
 
-find-kind-requires : tie.Need-find-kind-requires
-find-kind-requires c κs = search needs
-
-enum-known-k : tie.Need-enum-known-k
-enum-known-k c = search needs
-
-enum-told : tie.Need-enum-told
-enum-told c = search needs
-
 returns : tie.Need-returns
 returns c = look-unknown _ (found-is (c .before .before) ∙ c .enum-told .given .1)
-
-lengths-of-requires : tie.Need-lengths-of-requires
-lengths-of-requires c κs = search needs
-
-enum-known-l : tie.Need-enum-known-l
-enum-known-l c = search needs
-
-enum-told-2 : tie.Need-enum-told-2
-enum-told-2 c = search needs
 
 returns-2 : tie.Need-returns-2
 returns-2 c = let k = c .before .before .before .before in
@@ -46,12 +28,12 @@ pub look-up-spec : {M : Type 1} → statement M
 look-up-spec =
     tie.close
     (tie.spec
-    find-kind-requires
-    enum-known-k
-    enum-told
+    (λ c κs. search needs)
+    (λ c. search needs)
+    (λ c. search needs)
     returns
-    lengths-of-requires
-    enum-known-l
-    enum-told-2
+    (λ c κs. search needs)
+    (λ c. search needs)
+    (λ c. search needs)
     returns-2
     returns-3)

@@ -22,27 +22,6 @@ kind-fits c = search needs
 looked : (c : tie.After-look-up) → lookUp (c .before .before .before .args .s .kind) ≡ c .look-up .result
 looked c = ap lookUp (sym (toZ-ofZ w32 _ (kind-fits (c .before .before .before)))) ∙ sym (c .look-up .ensures)
 
-look-up-requires : tie.Need-look-up-requires
-look-up-requires c κs = search needs
-
-enum-known-k : tie.Need-enum-known-k
-enum-known-k c = search needs
-
-natural-requires : tie.Need-natural-requires
-natural-requires c κs = search needs
-
-natural-requires-2 : tie.Need-natural-requires-2
-natural-requires-2 c κs = search needs
-
-counts-fine-requires : tie.Need-counts-fine-requires
-counts-fine-requires c κs = search needs
-
-enum-told : tie.Need-enum-told
-enum-told c = search needs
-
-enum-told-2 : tie.Need-enum-told-2
-enum-told-2 c = search needs
-
 returns : tie.Need-returns
 returns c = let k = c .before .before .before .before .before .before .before in
     let l = k .before .before in
@@ -65,13 +44,13 @@ pub state-fine-spec : {M : Type 1} → statement M
 state-fine-spec =
     tie.close
     (tie.spec
-    look-up-requires
-    enum-known-k
-    natural-requires
-    natural-requires-2
-    counts-fine-requires
-    enum-told
-    enum-told-2
+    (λ c κs. search needs)
+    (λ c. search needs)
+    (λ c κs. search needs)
+    (λ c κs. search needs)
+    (λ c κs. search needs)
+    (λ c. search needs)
+    (λ c. search needs)
     returns
     returns-2
     returns-3)

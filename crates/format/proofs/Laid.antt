@@ -6,18 +6,19 @@ use mathlib.Core.Option.{Option, none, some}
 use Prim.Native.Nat.{ℕ, _+_, _*_}
 use native.Mathlib.Omega.{arith}
 use lib.ListN.{length, length-append}
 use Rattle.format.specs.declared.kinds.Kind.{Kind}
 use Rattle.format.specs.Bytes.{leBytes}
-use Rattle.format.specs.Encoding.{doubles, pointBytes, boxBytes, startsFrom, valueBytes, measureBytes, partsBytes, shapeBytes, shapeWords}
+use Rattle.format.specs.Encoding.{doubles, pointBytes, boxBytes, startsFrom, valueBytes, measureBytes, partsBytes, shapeBytes, content, shapeWords, recordBytes}
 use Rattle.format.specs.Lengths.{onePoint, fixedWords, pointWords, contentWords}
 use Rattle.format.specs.Lengths
 use Rattle.format.specs.Numbers.{little, double}
 use Rattle.format.specs.Shapes.{Point, BoxXY, Measure, Parts, Shape, null, point, parted, there, Covers, PartsOf, OfKind}
 use Rattle.format.specs.WellFormed.{coordinates}
 use Rattle.format.proofs.ByteLaws.{length-leBytes}
-use Rattle.meaning.proofs.Runs.{run, run-append, length-run}
-use Rattle.meaning.proofs.Doubles.{value, measured, writeIf, RightIf, all, count, length-all}
-use Rattle.meaning.proofs.Cuts.{length-startsFrom}
+use Rattle.format.proofs.NumberLaws.{length-little, length-two}
+use Rattle.format.proofs.Runs.{run, run-append, length-run}
+use Rattle.format.proofs.Doubles.{value, measured, writeIf, RightIf, all, count, length-all}
+use Rattle.format.proofs.Cuts.{length-startsFrom}
 
 -- ---- words
 
@@ -112,3 +113,11 @@ length-shape k (parted s) o =
     rw (parts-laid s)
     (simp (length-append, length-leBytes, length-run, length-startsFrom, length-doubles k s o)
     (omega (arith, parts-words (there (s .z)) (there (s .m)) (length (s .parts)) (length (flatten (s .parts))))))
+
+pub length-content : (k : Kind) (s : Shape) → OfKind k s → length (content k s) ≡ 2 * shapeWords s
+unfolding content
+length-content k s o = rw (length-append, length-little) (length-shape k s o)
+
+pub length-record : (k : Kind) (n : ℕ) (s : Shape) → OfKind k s → length (recordBytes k n s) ≡ 8 + 2 * shapeWords s
+unfolding recordBytes
+length-record k n s o = rw (length-append, length-two, length-content k s o)

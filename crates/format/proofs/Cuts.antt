@@ -6,9 +6,9 @@ use native.Mathlib.Nat.{add-zero}
 use native.Mathlib.Omega.{arith}
 use lib.ListN.{length, take, drop, length-append, length-drop, take-append-drop}
 use lib.Seq.{length-take-le, take-at, drop-at}
+use Rattle.format.specs.Bytes.{Fit}
 use Rattle.format.specs.Encoding.{startsFrom}
 use Rattle.format.specs.Shapes.{Point}
-use Rattle.meaning.proofs.Runs.{Fit}
 
 -- where each part ends, the first of them from point cur on
 unfoldable pub endsFrom : ℕ → List (List Point) → List ℕ

@@ -1,13 +1,13 @@
 -- Runs of numbers of one width in the bytes: read and written.
 use mathlib.Core.Path.{_≡_, refl, ap, _∙_}
 use mathlib.Core.List.{List, [], _∷_, _++_, map, flatten, append-assoc}
-use Prim.Native.Nat.{ℕ, zero, suc, _+_, _*_, _^_, _≤_, _<_}
+use Prim.Native.Nat.{ℕ, zero, suc, _+_, _*_, _≤_, _<_}
 use native.Mathlib.Nat.{mul-suc, add-zero}
 use native.Mathlib.Omega.{arith}
 use lib.ListN.{length, drop, getD, length-append}
-use Rattle.format.specs.Bytes.{le, leBytes, field}
+use Rattle.format.specs.Bytes.{le, leBytes, field, Fit}
 use Rattle.format.proofs.ByteLaws.{AllBytes, length-leBytes}
-use Rattle.meaning.proofs.Places.{Stands, join, front, back, le-back, le-stands}
+use Rattle.format.proofs.Places.{Stands, join, front, back, le-back, le-stands}
 
 -- n numbers of w bytes from a place on
 unfoldable pub numbers : ℕ → ℕ → ℕ → List ℕ → List ℕ
@@ -17,10 +17,6 @@ numbers w (suc n) at s = le (field w at s) ∷ numbers w n (at + w) s
 -- and the bytes of numbers
 abbrev pub run : ℕ → List ℕ → List ℕ
 run w ds = flatten (map (leBytes w) ds)
-
-abbrev pub Fit : ℕ → List ℕ → Type 0
-Fit w [] = Unit {0}
-Fit w (d ∷ ds) = (d < 2 ^ (8 * w)) × Fit w ds
 
 pub length-numbers : (w n at : ℕ) (s : List ℕ) → length (numbers w n at s) ≡ n
 unfolding numbers

@@ -7,10 +7,10 @@ use Prim.Native.Nat.{ℕ, suc, _+_, _*_, _≤_}
 use native.Mathlib.Omega.{arith}
 use lib.ListN.{length, take, drop, getD, length-append, length-drop, take-append-drop}
 use lib.Seq.{length-take-le, take-all, take-at, drop-at}
 use Rattle.format.specs.Lengths.{given}
 use Rattle.format.specs.Shapes.{Point, Measure, there}
 use Rattle.format.specs.WellFormed.{coordinates}
-use Rattle.meaning.proofs.Pairs.{pairs, pairs-written, length-coordinates}
+use Rattle.format.proofs.Pairs.{pairs, pairs-written, length-coordinates}
 
 -- ---- what may lack
 

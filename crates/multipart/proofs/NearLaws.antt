@@ -13,12 +13,13 @@ use borrow.Author.Tests.{leb-true}
 use Rattle.format.specs.Numbers.{leI32}
 use Rattle.format.specs.Order.{first, whole, fieldsFrom}
 use Rattle.format.specs.Said.{Said, gives, refuses, short, wrongSize, room}
+use Rattle.format.specs.Shapes.{sum}
+use Rattle.format.proofs.OrderLaws.{first-append}
 use Rattle.multipart.specs.declared.Body.{Body}
 use Rattle.multipart.specs.Answers.{Two, countsOf}
-use Rattle.multipart.specs.Body.{sum, partsIn, differencesIn, countsIn, pointsIn, pairsAt, zAt, mAt, bodyIn, countTests, partTests, measureTests, restTests, hasRoom, roomTests, bodyOf}
+use Rattle.multipart.specs.Body.{partsIn, differencesIn, countsIn, pointsIn, pairsAt, zAt, mAt, bodyIn, countTests, partTests, measureTests, restTests, hasRoom, roomTests, bodyOf}
 use Rattle.multipart.specs.Parts.{isCount, countOf, differences, startsAt}
 use Rattle.multipart.specs.Walks.{endAfter}
-use Rattle.multipart.proofs.TestLaws.{first-append}
 
 -- the one number of a refusal
 abbrev pub offset : {A : Type 0} → Said A → ℕ

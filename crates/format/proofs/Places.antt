@@ -1,12 +1,12 @@
 -- Bytes that stand at a place of other bytes: laid one behind the other, and a number read and written there, at every width.
 use mathlib.Core.Path.{_≡_, sym, ap, _∙_}
-use mathlib.Core.List.{List, [], _∷_, _++_, append-nil, append-assoc}
-use Prim.Native.Nat.{ℕ, zero, suc, _+_, _*_, _^_, _≤_, _<_}
+use mathlib.Core.List.{List, _++_, append-nil, append-assoc}
+use Prim.Native.Nat.{ℕ, _+_, _*_, _^_, _≤_, _<_}
 use native.Mathlib.Omega.{arith}
 use lib.ListN.{length, take, drop, length-append, length-drop, take-append-drop}
 use lib.Seq.{take-at, drop-at, drop-length, drop-drop}
 use Rattle.format.specs.Bytes.{le, be, leBytes, beBytes, field}
 use Rattle.format.proofs.ByteLaws.{AllBytes, length-leBytes, length-beBytes, length-field, le-leBytes, be-beBytes, leBytes-field, beBytes-field}
 
 pub record Stands (at : ℕ) (bytes s : List ℕ) : Type 0 where
   pub here : bytes ++ drop (at + length bytes) s ≡ drop at s
@@ -75,8 +75,3 @@ module _ (w at : ℕ) (s : List ℕ) (b : AllBytes s) (h : at + w ≤ length s) 
 
   pub be-stands : Stands at (beBytes w (be (field w at s))) s
   be-stands = rw (beBytes-field w at s b h) (stands-field at w s h)
-
-pub bytes-drop : (n : ℕ) (l : List ℕ) → AllBytes l → AllBytes (drop n l)
-bytes-drop zero l h = h
-bytes-drop (suc n) [] h = tt
-bytes-drop (suc n) (b ∷ l) h = bytes-drop n l (h .1)
