@@ -8,12 +8,13 @@ use lib.IntN.{ℤ, pos}
 use lib.ListN.{length, drop}
 use lib.Seq.{sets}
 use Rattle.format.specs.declared.units.Bytes.{Bytes}
+use Rattle.format.specs.Kinds.{kindAt, kindOr}
 use Rattle.format.specs.Said.{Said, gives, refuses}
 use Rattle.multipart.specs.declared.Body.{Body}
 use Rattle.multipart.specs.Body.{noRange, countsIn, xyIn, zIn, mIn}
 use Rattle.record.specs.declared.Point.{Point}
 use Rattle.record.specs.declared.Wanted.{Wanted}
-use Rattle.record.specs.Reading.{Shaped, nullShape, pointShape, partsShape, codeIn, kindAt, kindOr, recordOf}
+use Rattle.record.specs.Reading.{Shaped, nullShape, pointShape, partsShape, codeIn, recordOf}
 use Rattle.writer.specs.Boxes.{zero}
 use Rattle.export.specs.declared.records.RecordRead.{RecordRead}
 use Rattle.export.specs.declared.refusals.Refusal.{Refusal}
