@@ -70,3 +70,8 @@ pub use rings::{
     close_points_if_not_already, is_part_closed, ring_type_from_points_ordering, RingType,
 };
 pub use writer::{Tables, Writer};
+
+/// The README's example is compiled with the tests.
+#[cfg(doctest)]
+#[doc = include_str!("../../../README.md")]
+struct Readme;
