@@ -53,9 +53,7 @@ le-number-spec =
     loop-holds
     (λ c. omega arith)
     mul-n
-    (λ c. omega arith)
-    (λ c. omega arith)
-    (λ c κs. search needs)
+    (λ c. omega arith) (λ c. omega arith) (λ c κs. search needs)
     add-n
     (λ c. omega arith)
     loop-again

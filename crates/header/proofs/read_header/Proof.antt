@@ -163,13 +163,9 @@ read-header-spec =
     returns-6
     (λ c κs. search needs)
     returns-7
-    (λ c κs. search needs)
-    (λ c κs. search needs)
-    (λ c. search needs)
-    (λ c. search needs)
+    (λ c κs. search needs) (λ c κs. search needs) (λ c. search needs) (λ c. search needs)
     returns-8
-    (λ c. search needs)
-    (λ c. search needs)
+    (λ c. search needs) (λ c. search needs)
     returns-9
     (λ c κs. search needs)
     returns-10)

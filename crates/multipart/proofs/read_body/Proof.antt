@@ -1,10 +1,10 @@
 -- `multipart::read_body` meets its contract: a refusal of the counts is the body's, and leaves the stores; else the rest decides.
-use mathlib.Core.Path.{_≡_, refl, sym, ap, _∙_}
+use mathlib.Core.Path.{_≡_, sym, ap, _∙_}
 use borrow.Author.Needs.{needs}
 use Rattle.multipart.specs.declared.CountsAnswer.{CountsAnswer}
 use Rattle.multipart.specs.declared.CountsAnswer.the-variants as Is
 use Rattle.multipart.specs.Answers.{saidCounts, countsOf}
-use Rattle.multipart.proofs.BodyLaws.{counts-refused}
+use Rattle.multipart.proofs.BodyLaws.{counts-refused, unread}
 use Rattle.multipart.proofs.CountLaws.{counts-stop, counted}
 use Rattle.multipart.proofs.read_body.Statement.{statement}
 use Rattle.multipart.proofs.read_body.Tie as tie
@@ -25,39 +25,21 @@ read-rest-requires c κs =
 returns : tie.Need-returns
 returns c =
     let j = c .before .before .before in
-    record {
-      says = counts-refused (e1 j .args .z) (e1 j .args .m) (e1 j .args .s .now) _ _ _ _ _ (counts-stop _ _ _ (told j (Is.Short (c .before .at .given .0 .0)) (c .before .at .given .1)));
-      counts-are = refl;
-      xy-are = refl;
-      z-are = refl;
-      m-are = refl;
-    }
+    unread _ _ _ _ _ _ _ _ tt
+    (counts-refused (e1 j .args .z) (e1 j .args .m) (e1 j .args .s .now) _ _ _ _ _ (counts-stop _ _ _ (told j (Is.Short (c .before .at .given .0 .0)) (c .before .at .given .1))))
 
 returns-2 : tie.Need-returns-2
 returns-2 c =
     let j = c .before .before .before in
-    record {
-      says = counts-refused (e1 j .args .z) (e1 j .args .m) (e1 j .args .s .now) _ _ _ _ _ (counts-stop _ _ _ (told j (Is.Size (c .before .at2 .given .0 .0)) (c .before .at2 .given .1)));
-      counts-are = refl;
-      xy-are = refl;
-      z-are = refl;
-      m-are = refl;
-    }
+    unread _ _ _ _ _ _ _ _ tt
+    (counts-refused (e1 j .args .z) (e1 j .args .m) (e1 j .args .s .now) _ _ _ _ _ (counts-stop _ _ _ (told j (Is.Size (c .before .at2 .given .0 .0)) (c .before .at2 .given .1))))
 
 pub read-body-spec : {M : Type 1} → statement M
 read-body-spec =
     tie.close
     (tie.spec
-    (λ c κs. search needs)
-    (λ c. search needs)
-    (λ c. search needs)
-    (λ c. search needs)
-    (λ c. search needs)
+    (λ c κs. search needs) (λ c. search needs) (λ c. search needs) (λ c. search needs) (λ c. search needs)
     read-rest-requires
     returns
     returns-2
-    (λ c. search needs)
-    (λ c. search needs)
-    (λ c. search needs)
-    (λ c. search needs)
-    (λ c. search needs))
+    (λ c. search needs) (λ c. search needs) (λ c. search needs) (λ c. search needs) (λ c. search needs))

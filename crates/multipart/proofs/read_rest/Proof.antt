@@ -1,5 +1,5 @@
 -- `multipart::read_rest` meets its contract: a refusal of the walk or of the room leaves the stores, and else they get what the definition has.
-use mathlib.Core.Path.{_≡_, refl, sym, ap, _∙_, subst}
+use mathlib.Core.Path.{_≡_, sym, ap, _∙_, subst}
 use mir.Syntax.{w32}
 use borrow.Author.Needs.{needs}
 use Rattle.format.specs.Said.{gives}
@@ -7,7 +7,7 @@ use Rattle.format.proofs.SignLaws.{back}
 use Rattle.multipart.specs.declared.judge.Walk.{Walk}
 use Rattle.multipart.specs.declared.judge.Walk.the-variants.{On, Short, Size}
 use Rattle.multipart.specs.Walks.{RestWalk}
-use Rattle.multipart.proofs.BodyLaws.{rest-refused, no-room, whole-body}
+use Rattle.multipart.proofs.BodyLaws.{rest-refused, no-room, whole-body, unread}
 use Rattle.multipart.proofs.read_rest.Statement.{statement}
 use Rattle.multipart.proofs.read_rest.Tie as tie
 
@@ -38,24 +38,14 @@ store-body-requires c κs =
 returns : tie.Need-returns
 returns c =
     let j = c .before .before .before in
-    record {
-      says = rest-refused (e1 j .args .z) (e1 j .args .m) (e1 j .args .s .now) _ _ _ _ (e1 j .pre .passes) _ (told j (Short (c .before .at .given .0 .0)) (c .before .at .given .1));
-      counts-are = refl;
-      xy-are = refl;
-      z-are = refl;
-      m-are = refl;
-    }
+    unread _ _ _ _ _ _ _ _ tt
+    (rest-refused (e1 j .args .z) (e1 j .args .m) (e1 j .args .s .now) _ _ _ _ (e1 j .pre .passes) _ (told j (Short (c .before .at .given .0 .0)) (c .before .at .given .1)))
 
 returns-2 : tie.Need-returns-2
 returns-2 c =
     let j = c .before .before .before in
-    record {
-      says = rest-refused (e1 j .args .z) (e1 j .args .m) (e1 j .args .s .now) _ _ _ _ (e1 j .pre .passes) _ (told j (Size (c .before .at2 .given .0 .0)) (c .before .at2 .given .1));
-      counts-are = refl;
-      xy-are = refl;
-      z-are = refl;
-      m-are = refl;
-    }
+    unread _ _ _ _ _ _ _ _ tt
+    (rest-refused (e1 j .args .z) (e1 j .args .m) (e1 j .args .s .now) _ _ _ _ (e1 j .pre .passes) _ (told j (Size (c .before .at2 .given .0 .0)) (c .before .at2 .given .1)))
 
 returns-3 : tie.Need-returns-3
 returns-3 c =
@@ -78,31 +68,18 @@ returns-4 c =
     let p = c .before .before in
     let a = e1 (p .before .before .before) in
     let w = on p in
-    record {
-      says =
-          no-room (a .args .z) (a .args .m) (a .args .s .now) _ _ _ _ (a .pre .passes) _ _ (a .pre .parts-are) (w .1 .0) (w .0) (sym (c .before .has-room .ensures) ∙ c .if1 .left);
-      counts-are = refl;
-      xy-are = refl;
-      z-are = refl;
-      m-are = refl;
-    }
+    unread _ _ _ _ _ _ _ _ tt
+    (no-room (a .args .z) (a .args .m) (a .args .s .now) _ _ _ _ (a .pre .passes) _ _ (a .pre .parts-are) (w .1 .0) (w .0) (sym (c .before .has-room .ensures) ∙ c .if1 .left))
 
 pub read-rest-spec : {M : Type 1} → statement M
 read-rest-spec =
     tie.close
     (tie.spec
-    (λ c κs. search needs)
-    (λ c κs. search needs)
-    (λ c. search needs)
-    (λ c. search needs)
-    (λ c. search needs)
+    (λ c κs. search needs) (λ c κs. search needs) (λ c. search needs) (λ c. search needs) (λ c. search needs)
     (λ c κs. search needs)
     store-body-requires
     returns
     returns-2
-    (λ c. search needs)
-    (λ c. search needs)
-    (λ c. search needs)
-    (λ c. search needs)
+    (λ c. search needs) (λ c. search needs) (λ c. search needs) (λ c. search needs)
     returns-3
     returns-4)

@@ -64,8 +64,7 @@ judge-spec =
     (λ c κs. search needs)
     returns
     plan-in-requires
-    (λ c. search needs)
-    (λ c. search needs)
+    (λ c. search needs) (λ c. search needs)
     returns-2
     back-fault-requires
     returns-3

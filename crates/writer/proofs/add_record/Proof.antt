@@ -106,9 +106,7 @@ pub add-record-spec : {M : Type 1} → statement M
 add-record-spec =
     tie.close
     (tie.spec
-    (λ c κs. search needs)
-    (λ c. search needs)
-    (λ c. search needs)
+    (λ c κs. search needs) (λ c. search needs) (λ c. search needs)
     sub-put-record
     part-put-record-start
     (λ c. search needs)
@@ -116,6 +114,5 @@ add-record-spec =
     put-two-requires
     next-state-requires
     returns
-    (λ c. search needs)
-    (λ c. search needs)
+    (λ c. search needs) (λ c. search needs)
     returns-2)

@@ -46,8 +46,6 @@ find-kind-spec =
     (tie.spec
     returns
     cast-row-of
-    (λ c κs. search needs)
-    (λ c. search needs)
-    (λ c. search needs)
+    (λ c κs. search needs) (λ c. search needs) (λ c. search needs)
     returns-2
     returns-3)

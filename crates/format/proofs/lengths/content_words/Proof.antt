@@ -31,10 +31,7 @@ pub content-words-spec : {M : Type 1} → statement M
 content-words-spec =
     tie.close
     (tie.spec
-    (λ c. search needs)
-    (λ c. search needs)
-    (λ c. search needs)
-    (λ c. search needs)
+    (λ c. search needs) (λ c. search needs) (λ c. search needs) (λ c. search needs)
     mul-words-2
     add-words-2
     (λ c. search needs)

@@ -109,11 +109,7 @@ judge-body-spec =
     returns-4
     returns-5
     returns-6
-    (λ c. search needs)
-    (λ c. search needs)
-    (λ c. search needs)
-    (λ c. search needs)
-    (λ c κs. search needs)
+    (λ c. search needs) (λ c. search needs) (λ c. search needs) (λ c. search needs) (λ c κs. search needs)
     add-size-3
     (λ c κs. search needs)
     add-size-4

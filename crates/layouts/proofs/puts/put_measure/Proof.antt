@@ -34,8 +34,7 @@ pub put-measure-spec : {M : Type 1} → statement M
 put-measure-spec =
     tie.close
     (tie.spec
-    (λ c. search needs)
-    (λ c. search needs)
+    (λ c. search needs) (λ c. search needs)
     write-doubles-requires
     write-doubles-requires-2
     (λ c. search needs)

@@ -78,7 +78,5 @@ store-body-spec =
     store-m-requires
     body-at-requires
     same-length
-    (λ c. search needs)
-    (λ c. search needs)
-    (λ c. search needs)
+    (λ c. search needs) (λ c. search needs) (λ c. search needs)
     returns)

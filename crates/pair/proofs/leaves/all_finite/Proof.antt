@@ -39,8 +39,6 @@ all-finite-spec =
     loop-holds
     (λ c κs. omega arith)
     returns
-    (λ c. omega arith)
-    (λ c. omega arith)
-    (λ c. omega arith)
+    (λ c. omega arith) (λ c. omega arith) (λ c. omega arith)
     loop-again
     returns-2)

@@ -40,8 +40,6 @@ zero-bytes-spec =
     loop-holds
     (λ c. omega arith)
     returns
-    (λ c. omega arith)
-    (λ c. omega arith)
-    (λ c. omega arith)
+    (λ c. omega arith) (λ c. omega arith) (λ c. omega arith)
     loop-again
     returns-2)

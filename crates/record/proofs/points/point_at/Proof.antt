@@ -19,8 +19,7 @@ pub point-at-spec : {M : Type 1} → statement M
 point-at-spec =
     tie.close
     (tie.spec
-    (λ c κs. search needs)
-    (λ c κs. search needs)
+    (λ c κs. search needs) (λ c κs. search needs)
     double-if-requires
     (λ c κs. search needs)
     double-if-requires-2

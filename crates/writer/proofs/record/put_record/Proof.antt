@@ -58,7 +58,5 @@ put-record-spec =
     put-le-i32-requires
     sub-put-body
     part-put-body-start
-    (λ c. search needs)
-    (λ c κs. search needs)
-    (λ c. search needs)
+    (λ c. search needs) (λ c κs. search needs) (λ c. search needs)
     returns)
