@@ -1,0 +1,227 @@
+// Part 6: a body is read into stores with room behind it, and again into stores that it fills. All entries behind it stay, and a refusal
+// stores nothing.
+use crate::given;
+use crate::seen;
+use crate::seen::Seen;
+use crate::stores;
+use multipart::Body;
+use multipart::BodyAnswer;
+
+// What a body holds beside what goes into the stores.
+fn head(e: &[u8], b: Body) -> Seen {
+    let bounds = b.bbox;
+    let z = b.z_range;
+    let m = b.m_range;
+    let c = seen::byte(e, seen::start(), 0);
+    let c = seen::double(e, c, bounds.xmin);
+    let c = seen::double(e, c, bounds.ymin);
+    let c = seen::double(e, c, bounds.xmax);
+    let c = seen::double(e, c, bounds.ymax);
+    let c = seen::double(e, c, z.low);
+    let c = seen::double(e, c, z.high);
+    let c = seen::double(e, c, m.low);
+    let c = seen::double(e, c, m.high);
+    let c = seen::word(e, c, b.parts as u64);
+    seen::word(e, c, b.points as u64)
+}
+
+// All entries from these places on are as they were filled.
+fn left(
+    counts: &[u32],
+    p: usize,
+    xy: &[f64],
+    n: usize,
+    zs: &[f64],
+    nz: usize,
+    ms: &[f64],
+    nm: usize,
+) -> bool {
+    if !stores::words_left(counts, p) {
+        return false;
+    }
+    if !stores::doubles_left(xy, n) {
+        return false;
+    }
+    if !stores::doubles_left(zs, nz) {
+        return false;
+    }
+    stores::doubles_left(ms, nm)
+}
+
+// So many values of each store after the head, and the rest as it was.
+fn stored(
+    e: &[u8],
+    b: Body,
+    p: usize,
+    n: usize,
+    nz: usize,
+    nm: usize,
+    counts: &[u32],
+    xy: &[f64],
+    zs: &[f64],
+    ms: &[f64],
+) -> bool {
+    let c = head(e, b);
+    let c = seen::words(e, c, stores::words(counts, 0, p));
+    let c = seen::doubles(e, c, stores::doubles(xy, 0, n));
+    let c = seen::doubles(e, c, stores::doubles(zs, 0, nz));
+    let c = seen::doubles(e, c, stores::doubles(ms, 0, nm));
+    if seen::whole(e, c) {
+        return left(counts, p, xy, n, zs, nz, ms, nm);
+    }
+    false
+}
+
+fn where_set(flag: bool, n: usize) -> usize {
+    if flag { n } else { 0 }
+}
+
+// The number, or 0 where twice it does not fit.
+fn twice(n: usize) -> usize {
+    if n < 0x8000_0000_0000_0000 { 2 * n } else { 0 }
+}
+
+// The refusal that is expected, and nothing stored.
+fn refused(
+    e: &[u8],
+    which: u8,
+    at: usize,
+    counts: &[u32],
+    xy: &[f64],
+    zs: &[f64],
+    ms: &[f64],
+) -> bool {
+    if seen::refusal(e, which, at as u64) {
+        return left(counts, 0, xy, 0, zs, 0, ms, 0);
+    }
+    false
+}
+
+// An answer with the stores as they are after the call.
+fn judged(
+    e: &[u8],
+    answer: BodyAnswer,
+    z: bool,
+    m: bool,
+    counts: &[u32],
+    xy: &[f64],
+    zs: &[f64],
+    ms: &[f64],
+) -> bool {
+    match answer {
+        BodyAnswer::Whole(b) => {
+            let n = b.points;
+            stored(
+                e,
+                b,
+                b.parts,
+                twice(n),
+                where_set(z, n),
+                where_set(m, n),
+                counts,
+                xy,
+                zs,
+                ms,
+            )
+        }
+        BodyAnswer::Short(at) => refused(e, 1, at, counts, xy, zs, ms),
+        BodyAnswer::Size(at) => refused(e, 3, at, counts, xy, zs, ms),
+        BodyAnswer::Room(_, _) => false,
+    }
+}
+
+fn fill(counts: &mut [u32], xy: &mut [f64], zs: &mut [f64], ms: &mut [f64]) {
+    stores::fill_words(counts);
+    stores::fill_doubles(xy);
+    stores::fill_doubles(zs);
+    stores::fill_doubles(ms);
+}
+
+fn read(
+    s: &[u8],
+    e: &[u8],
+    z: bool,
+    m: bool,
+    counts: &mut [u32],
+    xy: &mut [f64],
+    zs: &mut [f64],
+    ms: &mut [f64],
+) -> bool {
+    fill(counts, xy, zs, ms);
+    let answer = multipart::read_body(s, z, m, counts, xy, zs, ms);
+    judged(e, answer, z, m, counts, xy, zs, ms)
+}
+
+// The same with so many entries of each store.
+fn read_into(
+    s: &[u8],
+    e: &[u8],
+    z: bool,
+    m: bool,
+    p: usize,
+    n: usize,
+    nz: usize,
+    nm: usize,
+    counts: &mut [u32],
+    xy: &mut [f64],
+    zs: &mut [f64],
+    ms: &mut [f64],
+) -> bool {
+    if counts.len() < p {
+        return false;
+    }
+    if xy.len() < n {
+        return false;
+    }
+    if zs.len() < nz {
+        return false;
+    }
+    if ms.len() < nm {
+        return false;
+    }
+    read(
+        s,
+        e,
+        z,
+        m,
+        &mut counts[0..p],
+        &mut xy[0..n],
+        &mut zs[0..nz],
+        &mut ms[0..nm],
+    )
+}
+
+// The expected answer says how many parts and points there are; it is shorter where the body is refused.
+pub fn body_read(
+    s: &[u8],
+    e: &[u8],
+    flags: u8,
+    counts: &mut [u32],
+    xy: &mut [f64],
+    zs: &mut [f64],
+    ms: &mut [f64],
+) -> bool {
+    let z = flags % 2 == 1;
+    let m = flags / 2 == 1;
+    let p = given::word(e, 65);
+    let n = given::word(e, 69);
+    if read_into(
+        s,
+        e,
+        z,
+        m,
+        p + 2,
+        2 * n + 3,
+        n + 2,
+        n + 2,
+        counts,
+        xy,
+        zs,
+        ms,
+    ) {
+        let nz = where_set(z, n);
+        let nm = where_set(m, n);
+        return read_into(s, e, z, m, p, 2 * n, nz, nm, counts, xy, zs, ms);
+    }
+    false
+}

@@ -1,0 +1,67 @@
+#!/usr/bin/env python3
+"""variants.py: tries that the comparison can fail. Each wrong variant of the library below is made in a copy of the crates, and `rt try` runs the program
+`replay` over it on the fixed list, unproved. Prints how many cases each gets wrong. Exit status 0 only if every one gets some wrong."""
+import os
+import re
+import shutil
+import subprocess
+import sys
+import tempfile
+
+ROOT = os.path.dirname(os.path.dirname(os.path.dirname(os.path.abspath(__file__))))
+
+# What is wrong, in which file, which text, and what stands in its place.
+VARIANTS = [
+    ('closed without y', 'rings/src/lib.rt',
+     '        if xy[1] == xy[n - 1] {\n            return ClosedAnswer::Closed;\n        }\n', '        return ClosedAnswer::Closed;\n'),
+    ('the turning is not halved', 'rings/src/lib.rt', 'if sum / 2.0 < 0.0', 'if sum < 0.0'),
+    ('closing appends x twice', 'rings/src/lib.rt', 'store[run + 1] = y;', 'store[run + 1] = x;'),
+    ('an empty part is refused', 'multipart/src/lib.rt', 'if d < 0 {', 'if d <= 0 {'),
+    ('a part of 2147483647 points is refused', 'multipart/src/lib.rt', 'if 0x7fff_ffff < d', 'if 0x7fff_fffe < d'),
+    ('the m rule with its arguments exchanged', 'multipart/src/store.rt', 'if -10e38 < x { x } else { -10e38 }', 'if x < -10e38 { -10e38 } else { x }'),
+    ('a cut pair is Short at the front of its part', 'multipart/src/judge.rt', 'return Walk::Short(at + (s.len() - at) / 8 * 8);', 'return Walk::Short(at);'),
+    ('a negative n is 3 at 32', 'multipart/src/lib.rt', 'return CountsAnswer::Size(36);', 'return CountsAnswer::Size(32);'),
+    ('a refusal stores a count', 'multipart/src/lib.rt', '        Walk::Size(at) => BodyAnswer::Size(at),\n        Walk::On',
+     '        Walk::Size(at) => {\n            if 0 < counts.len() {\n                counts[0] = 0;\n            }\n            BodyAnswer::Size(at)\n        }\n        Walk::On'),
+    ('counts that fill their store are refused', 'multipart/src/store.rt', 'if counts < p {', 'if counts <= p {'),
+    ('one m too many is stored', 'multipart/src/store.rt', '        while i < n {\n            let x = raise',
+     '        while i < n + 1 && i < ms.len() && at + 24 + 8 * i <= s.len() {\n            let x = raise'),
+    ('a negative file length is 3 at 28', 'header/src/lib.rt', 'return HeaderAnswer::Size(24);', 'return HeaderAnswer::Size(28);'),
+    ('there is no kind 31', 'format/src/kinds.rt', 'while i < 14 {', 'while i < 13 {'),
+    ('the version is written high byte first', 'header/src/lib.rt', 'fields::put_le_i32(&mut out, 28, h.version);', 'fields::put_be_i32(&mut out, 28, h.version);'),
+    ('a record number is read low byte first', 'header/src/entries.rt', 'record_number: fields::be_i32_at(s, 0),', 'record_number: fields::le_i32_at(s, 0),'),
+    ('an index entry with its numbers exchanged', 'header/src/entries.rt', 'two_bytes(offset.0, words.0)', 'two_bytes(words.0, offset.0)'),
+    ('a body that fills its output is refused', 'layouts/src/judge.rt', 'if room < size {', 'if room <= size {'),
+    ('a byte is written behind a body', 'layouts/src/lib.rt', '            LayoutAnswer::Written(size)\n        }',
+     '            if size < out.len() {\n                out[size] = 0;\n            }\n            LayoutAnswer::Written(size)\n        }'),
+    ('the starts are ends', 'layouts/src/puts.rt', '        fields::put_le(out, at + 4 * i, start, 4);\n        start += counts[i] as u64;\n',
+     '        start += counts[i] as u64;\n        fields::put_le(out, at + 4 * i, start, 4);\n'),
+    ('the .shx is one entry too long', 'writer/src/states.rt', '(50 + 4 * (natural(number) - 1)) as i32', '(50 + 4 * natural(number)) as i32'),
+    ('an index entry is 4 words off', 'writer/src/lib.rt', 'record::put_two(entry, words.0, w.0);', 'record::put_two(entry, words.0 + 4, w.0);'),
+    ('an entry that fills its buffer is refused', 'writer/src/judge.rt', 'if entry < 8 {', 'if entry <= 8 {'),
+    ('the record number stays', 'writer/src/record.rt', 'let number = natural(state.number) + 1;', 'let number = natural(state.number);'),
+    ('f64_min with its arguments exchanged', 'writer/src/boxes.rt', 'if a < b { a } else { b }', 'if b < a { b } else { a }'),
+]
+
+
+def wrong_cases(work, path, old, new):
+    """What the program says of the fixed list over the crates with one text exchanged; None where it says that all is well."""
+    shutil.copytree(os.path.join(ROOT, 'crates'), os.path.join(work, 'crates'))
+    shutil.copy(os.path.join(ROOT, 'crates.txt'), work)
+    path = os.path.join(work, 'crates', path)
+    text = open(path).read()
+    if text.count(old) != 1:
+        sys.exit(f'{path}: {text.count(old)} times, and not once: {old}')
+    open(path, 'w').write(text.replace(old, new))
+    said = subprocess.run(['rt', 'try', 'replay'], cwd=work, capture_output=True, text=True, errors='replace')
+    found = re.search(r'found "(?:cases=\d+ wrong=)?(\d+) first=\d+ broken=0', said.stdout + said.stderr)
+    return found and found.group(1)
+
+
+missed = 0
+for name, *change in VARIANTS:
+    with tempfile.TemporaryDirectory() as work:
+        wrong = wrong_cases(work, *change)
+    missed += wrong is None
+    print(f'| {name} | {wrong or "NOT FOUND"} |', flush=True)
+sys.exit(missed != 0)
