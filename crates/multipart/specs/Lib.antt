@@ -1,4 +1,4 @@
--- Document 01's "Reading a body".
+-- Document 01's "Reading a body". Walks serves the contracts of private functions alone.
 pub mod Answers
 pub mod Body
 pub mod Parts

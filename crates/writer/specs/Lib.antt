@@ -1,4 +1,4 @@
--- Document 01's "Writing": the state, adding a record, finishing.
+-- Document 01's "Writing": the state, adding a record, finishing. Judging serves the contracts of private functions alone.
 pub mod Adding
 pub mod Boxes
 pub mod Finishing
