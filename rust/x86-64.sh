@@ -55,7 +55,9 @@ archive=${MBENARUUL_LIB:-$root/target/staticlib}
 if [ ! -f "$archive/libexport.a" ]; then
     [ -z "${MBENARUUL_LIB:-}" ] || lacking "MBENARUUL_LIB names a folder without libexport.a"
     command -v rt >/dev/null || lacking "Rattle's rt is missing, which makes target/staticlib/libexport.a"
-    if ! (cd "$root" && rt staticlib export); then
+    echo "rust: proving and building the library first, which takes some minutes" >&2
+    if ! said=$(cd "$root" && rt staticlib export 2>&1); then
+        echo "$said" >&2
         echo "rust: rt staticlib export failed" >&2
         exit 1
     fi
