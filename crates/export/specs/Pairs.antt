@@ -9,7 +9,6 @@ use Rattle.pair.specs.Verdicts.{Checks}
 use Rattle.rules.specs.Rules.{Counts, none-yet, verdict}
 use Rattle.export.specs.declared.pairs.PairChecked.{PairChecked}
 use Rattle.export.specs.declared.pairs.Totals.{Totals}
-use Rattle.export.specs.declared.refusals.Refusal.{Refusal}
 use Rattle.export.specs.Refusals.{refusalOf, orElse}
 
 abbrev pub totals : Counts → Totals

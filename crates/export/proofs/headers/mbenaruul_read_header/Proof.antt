@@ -5,14 +5,10 @@ use Rattle.export.specs.Headers.{headerRead}
 use Rattle.export.proofs.headers.mbenaruul_read_header.Statement.{statement}
 use Rattle.export.proofs.headers.mbenaruul_read_header.Tie as tie
 
-read-header-requires : tie.Need-read-header-requires
-read-header-requires c κs = search needs
-
-header-read-requires : tie.Need-header-read-requires
-header-read-requires c κs = search needs
-
 returns : tie.Need-returns
 returns c = c .header-read .ensures ∙ ap headerRead (c .before .read-header .ensures)
 
 pub mbenaruul-read-header-spec : {M : Type 1} → statement M
-mbenaruul-read-header-spec = tie.close (tie.spec read-header-requires header-read-requires returns)
+mbenaruul-read-header-spec = tie.close (tie.spec
+    (λ c κs. search needs) (λ c κs. search needs)
+    returns)

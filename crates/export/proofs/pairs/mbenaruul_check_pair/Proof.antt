@@ -12,12 +12,6 @@ stands-for : (v : Verdict) → verdictOf (pairChecked (saidVerdict v)) ≡ v
 stands-for (Yes records parts points) = refl
 stands-for (No rule number) = refl
 
-check-pair-requires : tie.Need-check-pair-requires
-check-pair-requires c κs = search needs
-
-pair-checked-requires : tie.Need-pair-checked-requires
-pair-checked-requires c κs = search needs
-
 returns : tie.Need-returns
 returns c =
     let v = c .before .check-pair in
@@ -28,4 +22,6 @@ returns c =
     }
 
 pub mbenaruul-check-pair-spec : {M : Type 1} → statement M
-mbenaruul-check-pair-spec = tie.close (tie.spec check-pair-requires pair-checked-requires returns)
+mbenaruul-check-pair-spec = tie.close (tie.spec
+    (λ c κs. search needs) (λ c κs. search needs)
+    returns)

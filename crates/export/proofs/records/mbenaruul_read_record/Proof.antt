@@ -7,24 +7,6 @@ use Rattle.export.proofs.RecordLaws.{reads}
 use Rattle.export.proofs.records.mbenaruul_read_record.Statement.{statement}
 use Rattle.export.proofs.records.mbenaruul_read_record.Tie as tie
 
-read-record-requires : tie.Need-read-record-requires
-read-record-requires c κs = search needs
-
-record-read-requires : tie.Need-record-read-requires
-record-read-requires c κs = search needs
-
-same-length : tie.Need-same-length
-same-length c = search needs
-
-same-length-2 : tie.Need-same-length-2
-same-length-2 c = search needs
-
-same-length-3 : tie.Need-same-length-3
-same-length-3 c = search needs
-
-same-length-4 : tie.Need-same-length-4
-same-length-4 c = search needs
-
 returns : tie.Need-returns
 returns c =
     let r = c .before .before .before .before .before .before .before .before .before in
@@ -35,10 +17,6 @@ pub mbenaruul-read-record-spec : {M : Type 1} → statement M
 mbenaruul-read-record-spec =
     tie.close
     (tie.spec
-    read-record-requires
-    record-read-requires
-    same-length
-    same-length-2
-    same-length-3
-    same-length-4
+    (λ c κs. search needs) (λ c κs. search needs) (λ c. search needs) (λ c. search needs) (λ c. search needs)
+    (λ c. search needs)
     returns)

@@ -5,15 +5,11 @@ use Rattle.export.specs.Runs.{closedTold}
 use Rattle.export.proofs.runs.mbenaruul_is_part_closed.Statement.{statement}
 use Rattle.export.proofs.runs.mbenaruul_is_part_closed.Tie as tie
 
-is-part-closed-requires : tie.Need-is-part-closed-requires
-is-part-closed-requires c κs = search needs
-
-closed-told-requires : tie.Need-closed-told-requires
-closed-told-requires c κs = search needs
-
 returns : tie.Need-returns
 returns c = c .closed-told .ensures ∙ ap closedTold (c .before .is-part-closed .ensures)
 
 pub mbenaruul-is-part-closed-spec : {M : Type 1} → statement M
 mbenaruul-is-part-closed-spec =
-    tie.close (tie.spec is-part-closed-requires closed-told-requires returns)
+    tie.close (tie.spec
+    (λ c κs. search needs) (λ c κs. search needs)
+    returns)

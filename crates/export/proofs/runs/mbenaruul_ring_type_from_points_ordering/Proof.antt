@@ -7,15 +7,11 @@ use Rattle.export.proofs.runs.mbenaruul_ring_type_from_points_ordering.
 }
 use Rattle.export.proofs.runs.mbenaruul_ring_type_from_points_ordering.Tie as tie
 
-ring-type-from-points-ordering-requires : tie.Need-ring-type-from-points-ordering-requires
-ring-type-from-points-ordering-requires c κs = search needs
-
-turning-told-requires : tie.Need-turning-told-requires
-turning-told-requires c κs = search needs
-
 returns : tie.Need-returns
 returns c = c .turning-told .ensures ∙ ap turningTold (c .before .ring-type-from-points-ordering .ensures)
 
 pub mbenaruul-ring-type-from-points-ordering-spec : {M : Type 1} → statement M
 mbenaruul-ring-type-from-points-ordering-spec =
-    tie.close (tie.spec ring-type-from-points-ordering-requires turning-told-requires returns)
+    tie.close (tie.spec
+    (λ c κs. search needs) (λ c κs. search needs)
+    returns)

@@ -4,75 +4,6 @@ use Rattle.export.proofs.CodeLaws.{one-code, two-codes}
 use Rattle.export.proofs.writing.add_answer.Statement.{statement}
 use Rattle.export.proofs.writing.add_answer.Tie as tie
 
-enum-known-a : tie.Need-enum-known-a
-enum-known-a c = search needs
-
-none-requires : tie.Need-none-requires
-none-requires c κs = search needs
-
-enum-told : tie.Need-enum-told
-enum-told c = search needs
-
-with-number-requires : tie.Need-with-number-requires
-with-number-requires c κs = search needs
-
-not-added-requires : tie.Need-not-added-requires
-not-added-requires c κs = search needs
-
-enum-known-a-2 : tie.Need-enum-known-a-2
-enum-known-a-2 c = search needs
-
-with-code-requires : tie.Need-with-code-requires
-with-code-requires c κs = search needs
-
-not-added-requires-2 : tie.Need-not-added-requires-2
-not-added-requires-2 c κs = search needs
-
-enum-known-a-3 : tie.Need-enum-known-a-3
-enum-known-a-3 c = search needs
-
-with-code-requires-2 : tie.Need-with-code-requires-2
-with-code-requires-2 c κs = search needs
-
-not-added-requires-3 : tie.Need-not-added-requires-3
-not-added-requires-3 c κs = search needs
-
-enum-known-a-4 : tie.Need-enum-known-a-4
-enum-known-a-4 c = search needs
-
-with-codes-requires : tie.Need-with-codes-requires
-with-codes-requires c κs = search needs
-
-not-added-requires-4 : tie.Need-not-added-requires-4
-not-added-requires-4 c κs = search needs
-
-enum-told-2 : tie.Need-enum-told-2
-enum-told-2 c = search needs
-
-with-number-requires-2 : tie.Need-with-number-requires-2
-with-number-requires-2 c κs = search needs
-
-not-added-requires-5 : tie.Need-not-added-requires-5
-not-added-requires-5 c κs = search needs
-
-enum-told-3 : tie.Need-enum-told-3
-enum-told-3 c = search needs
-
-with-number-requires-3 : tie.Need-with-number-requires-3
-with-number-requires-3 c κs = search needs
-
-not-added-requires-6 : tie.Need-not-added-requires-6
-not-added-requires-6 c κs = search needs
-
-enum-known-a-5 : tie.Need-enum-known-a-5
-enum-known-a-5 c = search needs
-
-with-number-requires-4 : tie.Need-with-number-requires-4
-with-number-requires-4 c κs = search needs
-
-not-added-requires-7 : tie.Need-not-added-requires-7
-not-added-requires-7 c κs = search needs
-
 returns : tie.Need-returns
 returns c = rw (c .none .ensures, c .before .before .a .given .1)
 
@@ -108,29 +39,11 @@ pub add-answer-spec : {M : Type 1} → statement M
 add-answer-spec =
     tie.close
     (tie.spec
-    enum-known-a
-    none-requires
-    enum-told
-    with-number-requires
-    not-added-requires
-    enum-known-a-2
-    with-code-requires
-    not-added-requires-2
-    enum-known-a-3
-    with-code-requires-2
-    not-added-requires-3
-    enum-known-a-4
-    with-codes-requires
-    not-added-requires-4
-    enum-told-2
-    with-number-requires-2
-    not-added-requires-5
-    enum-told-3
-    with-number-requires-3
-    not-added-requires-6
-    enum-known-a-5
-    with-number-requires-4
-    not-added-requires-7
+    (λ c. search needs) (λ c κs. search needs) (λ c. search needs) (λ c κs. search needs) (λ c κs. search needs)
+    (λ c. search needs) (λ c κs. search needs) (λ c κs. search needs) (λ c. search needs) (λ c κs. search needs)
+    (λ c κs. search needs) (λ c. search needs) (λ c κs. search needs) (λ c κs. search needs) (λ c. search needs)
+    (λ c κs. search needs) (λ c κs. search needs) (λ c. search needs) (λ c κs. search needs) (λ c κs. search needs)
+    (λ c. search needs) (λ c κs. search needs) (λ c κs. search needs)
     returns
     returns-2
     returns-3

@@ -23,18 +23,6 @@ adds s t out start entry w out′ entry′ r e h =
       entry-is = h .entry-is ∙ ap (λ (x : Said ℕ). unlessRefused x entry (sets entry 0 (entryOf s t))) (h .says);
     }
 
-add-record-requires : tie.Need-add-record-requires
-add-record-requires c κs = search needs
-
-add-answer-requires : tie.Need-add-answer-requires
-add-answer-requires c κs = search needs
-
-same-length : tie.Need-same-length
-same-length c = search needs
-
-same-length-2 : tie.Need-same-length-2
-same-length-2 c = search needs
-
 returns : tie.Need-returns
 returns c =
     let w = c .before .before .before .before .before .before in
@@ -43,4 +31,6 @@ returns c =
 
 pub mbenaruul-add-record-spec : {M : Type 1} → statement M
 mbenaruul-add-record-spec =
-    tie.close (tie.spec add-record-requires add-answer-requires same-length same-length-2 returns)
+    tie.close (tie.spec
+    (λ c κs. search needs) (λ c κs. search needs) (λ c. search needs) (λ c. search needs)
+    returns)
