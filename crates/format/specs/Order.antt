@@ -15,7 +15,11 @@ module _ {A : Type 0} where
   first [] answer = answer
   first (t ∷ ts) answer = cond (t .0) (first ts answer) (t .1)
 
-  -- n fields of w bytes each from a place on; `short` is the refusal that names a field's place
+  -- the field of n bytes from a place on, which has to be whole; `short` is the refusal that names its place
+  abbrev pub fieldAt : ℕ → ℕ → List ℕ → (ℕ → A) → Bool × A
+  fieldAt n at s short = (whole n at s, short at)
+
+  -- n fields of w bytes each
   abbrev pub fieldsFrom : ℕ → ℕ → ℕ → List ℕ → (ℕ → A) → List (Bool × A)
   fieldsFrom w zero at s short = []
-  fieldsFrom w (suc n) at s short = (whole w at s, short at) ∷ fieldsFrom w n (at + w) s short
+  fieldsFrom w (suc n) at s short = fieldAt w at s short ∷ fieldsFrom w n (at + w) s short

@@ -6,7 +6,7 @@ use mir.Syntax.{w32}
 use mir.Val.{ofZ}
 use Rattle.format.specs.Encoding.{twoBig, entryBytes}
 use Rattle.format.specs.Numbers.{beI32}
-use Rattle.format.specs.Order.{first, whole}
+use Rattle.format.specs.Order.{first, fieldAt}
 use Rattle.format.specs.Said.{Said, gives, short}
 use Rattle.header.specs.declared.entries.RecordHeader.{RecordHeader}
 use Rattle.header.specs.declared.entries.ShapeIndex.{ShapeIndex}
@@ -19,7 +19,7 @@ use Rattle.header.specs.declared.entries.ShapeIndexAnswer.the-variants a
 
 -- what is made of the two numbers; the first field that is cut decides
 unfoldable pub twoOf : {A : Type 0} → (ℤ → ℤ → A) → List ℕ → Said A
-twoOf make s = first ((whole 4 0 s, short 0) ∷ (whole 4 4 s, short 4) ∷ []) (gives (make (beI32 0 s) (beI32 4 s)))
+twoOf make s = first (fieldAt 4 0 s short ∷ fieldAt 4 4 s short ∷ []) (gives (make (beI32 0 s) (beI32 4 s)))
 
 abbrev pub recordHeader : ℤ → ℤ → RecordHeader
 recordHeader number words = record { «record_number» = number; «content_length» = record { 0 = words } }

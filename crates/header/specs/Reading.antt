@@ -7,7 +7,7 @@ use lib.IntN.{ℤ, pos, negsuc}
 use lib.Signed.{nonNeg}
 use Rattle.format.specs.Kinds.{known}
 use Rattle.format.specs.Numbers.{beI32, leI32}
-use Rattle.format.specs.Order.{first, whole, fieldsFrom}
+use Rattle.format.specs.Order.{first, fieldAt, fieldsFrom}
 use Rattle.format.specs.Said.{Said, gives, short, otherCode, wrongSize, unknown}
 use Rattle.header.specs.declared.Header.{Header}
 use Rattle.header.specs.declared.HeaderAnswer.{HeaderAnswer}
@@ -39,13 +39,13 @@ headerIn s =
 -- 0 the code; 4 twenty unused bytes, one field; 24 the length, not negative; 28 the version, not judged; 32 the kind; 36 the box
 abbrev pub headerTests : List ℕ → List (Bool × Said Header)
 headerTests s =
-    (whole 4 0 s, short 0)
+    fieldAt 4 0 s short
     ∷ (is9994 (beI32 0 s), otherCode (beI32 0 s))
-    ∷ (whole 20 4 s, short 4)
-    ∷ (whole 4 24 s, short 24)
+    ∷ fieldAt 20 4 s short
+    ∷ fieldAt 4 24 s short
     ∷ (nonNeg (beI32 24 s), wrongSize 24)
-    ∷ (whole 4 28 s, short 28)
-    ∷ (whole 4 32 s, short 32)
+    ∷ fieldAt 4 28 s short
+    ∷ fieldAt 4 32 s short
     ∷ (known (leI32 32 s), unknown (leI32 32 s))
     ∷ fieldsFrom 8 8 36 s short
 

@@ -7,7 +7,7 @@ use lib.Ieee.{Float, binary64, ofInt, lt, ofBits}
 use lib.IntN.{ℤ, pos, natAbs}
 use lib.Signed.{nonNeg}
 use Rattle.format.specs.Numbers.{leI32, leF64, doublesAt}
-use Rattle.format.specs.Order.{whole, fieldsFrom, first}
+use Rattle.format.specs.Order.{first, fieldAt, fieldsFrom}
 use Rattle.format.specs.Said.{Said, gives, short, wrongSize, room}
 use Rattle.format.specs.Shapes.{sum}
 use Rattle.multipart.specs.declared.Range.{Range}
@@ -88,8 +88,8 @@ module _ {A : Type 0} where
   abbrev pub countTests : List ℕ → List (Bool × Said A)
   countTests s =
       fieldsFrom 8 4 0 s short
-      ++ ((whole 4 32 s, short 32)
-      ∷ (whole 4 36 s, short 36)
+      ++ (fieldAt 4 32 s short
+      ∷ fieldAt 4 36 s short
       ∷ (nonNeg (leI32 32 s), wrongSize 32)
       ∷ (nonNeg (leI32 36 s), wrongSize 36)
       ∷ [])

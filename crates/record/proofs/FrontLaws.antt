@@ -35,8 +35,8 @@ use Rattle.record.specs.declared.RecordAnswer.{RecordAnswer}
 use Rattle.record.specs.declared.RecordAnswer.the-variants as Is
 use Rattle.record.specs.declared.front.Front.{Front}
 use Rattle.record.specs.declared.front.Front.the-variants as FrontIs
-use Rattle.record.specs.Reading.{Shaped, codeIn, isTaken, wantedTests, mismatchTests, frontTests}
-use Rattle.record.specs.Steps.{Passes, Refuses, foundTests, Held, Fronts}
+use Rattle.record.specs.Reading.{Shaped, codeIn, isTaken, wantedTests, mismatchTests, foundTests, frontTests}
+use Rattle.record.specs.Steps.{Passes, Refuses, Held, Fronts}
 
 -- ---- the lookups
 

@@ -14,7 +14,7 @@ use Rattle.format.specs.declared.units.Bytes.{Bytes}
 use Rattle.format.specs.Kinds.{known, kindAt, kindOr}
 use Rattle.format.specs.Lengths.{Form, nothing, onePoint, parts, contentWords, formAt}
 use Rattle.format.specs.Numbers.{leI32, leF64}
-use Rattle.format.specs.Order.{first, whole, fieldsFrom}
+use Rattle.format.specs.Order.{first, fieldAt, fieldsFrom}
 use Rattle.format.specs.Said.{Said, gives, refuses, short, wrongSize, unknown, mismatch, room, notTaken}
 use Rattle.format.specs.Shapes.{there}
 use Rattle.format.specs.Units.{sameInt, inI32}
@@ -53,14 +53,17 @@ abbrev pub mismatchTests : {A : Type 0} → Wanted → ℤ → List (Bool × Sai
 mismatchTests Wants.Any found = []
 mismatchTests (Wants.Kind code) found = (sameInt code found, mismatch code found) ∷ []
 
--- the wanted kind; the kind's field; size minus 4 must not leave i32; mismatch; not taken
-abbrev pub frontTests : {A : Type 0} → Wanted → Bytes → List ℕ → List (Bool × Said A)
-frontTests wanted size s =
-    wantedTests wanted
-    ++ ((whole 4 0 s, short 0)
+-- the kind's field; size minus 4 must not leave i32; mismatch; not taken
+abbrev pub foundTests : {A : Type 0} → Wanted → Bytes → List ℕ → List (Bool × Said A)
+foundTests wanted size s =
+    fieldAt 4 0 s short
     ∷ (known (codeIn s), unknown (codeIn s))
     ∷ (inI32 (size .0 -ℤ pos 4), wrongSize 0)
-    ∷ (mismatchTests wanted (codeIn s) ++ ((isTaken (codeIn s), notTaken (codeIn s)) ∷ [])))
+    ∷ (mismatchTests wanted (codeIn s) ++ ((isTaken (codeIn s), notTaken (codeIn s)) ∷ []))
+
+-- the wanted kind before them
+abbrev pub frontTests : {A : Type 0} → Wanted → Bytes → List ℕ → List (Bool × Said A)
+frontTests wanted size s = wantedTests wanted ++ foundTests wanted size s
 
 -- ---- the three forms
 

@@ -1,7 +1,7 @@
 -- What the steps of reading a record find, for their contracts: tests whatever follows them, a taken kind, a size, and the stores.
 use mathlib.Core.Path.{_≡_}
 use mathlib.Core.Bool.{Bool, true, false, cond}
-use mathlib.Core.List.{List, [], _∷_, _++_}
+use mathlib.Core.List.{List}
 use mathlib.Core.Option.{some}
 use Prim.Native.Nat.{ℕ, _≤_}
 use lib.Ieee.{Float, binary64, ofInt}
@@ -10,15 +10,14 @@ use lib.ListN.{length}
 use Rattle.format.specs.declared.kinds.Kind.{Kind}
 use Rattle.format.specs.declared.lengths.Lengths.{Lengths}
 use Rattle.format.specs.declared.units.Bytes.{Bytes}
-use Rattle.format.specs.Kinds.{known, kindAt}
+use Rattle.format.specs.Kinds.{kindAt}
 use Rattle.format.specs.Lengths.{lengthsOf}
 use Rattle.format.specs.Numbers.{leF64}
-use Rattle.format.specs.Order.{first, whole}
-use Rattle.format.specs.Said.{Said, gives, short, wrongSize, unknown, notTaken}
+use Rattle.format.specs.Order.{first}
+use Rattle.format.specs.Said.{Said, gives, wrongSize}
 use Rattle.format.specs.Units.{inI32}
 use Rattle.multipart.specs.Answers.{Two, countsOf}
 use Rattle.multipart.specs.Body.{bodyOf, countsIn, xyIn, zIn, mIn}
-use Rattle.record.specs.declared.Wanted.{Wanted}
 use Rattle.record.specs.declared.RecordAnswer.{RecordAnswer}
 use Rattle.record.specs.declared.RecordAnswer.the-variants as Is
 use Rattle.record.specs.declared.front.Judged.{Judged}
@@ -27,7 +26,7 @@ use Rattle.record.specs.declared.front.Front.{Front}
 use Rattle.record.specs.declared.front.Front.the-variants as FrontIs
 use Rattle.record.specs.declared.sizes.Sized.{Sized}
 use Rattle.record.specs.declared.sizes.Sized.the-variants as SizedIs
-use Rattle.record.specs.Reading.{Shaped, partsShape, codeIn, isTaken, mismatchTests, moved, andThen, hasM, sizeRight, saidRecord, stored}
+use Rattle.record.specs.Reading.{Shaped, partsShape, codeIn, moved, andThen, hasM, sizeRight, saidRecord, stored}
 
 -- ---- the tests in front of the shape
 
@@ -55,14 +54,6 @@ pub record Refuses (ts : List (Bool × Said Shaped)) (r : RecordAnswer) : Type 0
 abbrev pub Judges : List (Bool × Said Shaped) → Judged → Type 0
 Judges ts JudgedIs.On = Passes ts
 Judges ts (JudgedIs.Refused r) = Refuses ts r
-
--- the front's tests after those of the wanted kind
-abbrev pub foundTests : {A : Type 0} → Wanted → Bytes → List ℕ → List (Bool × Said A)
-foundTests wanted size s =
-    (whole 4 0 s, short 0)
-    ∷ (known (codeIn s), unknown (codeIn s))
-    ∷ (inI32 (size .0 -ℤ pos 4), wrongSize 0)
-    ∷ (mismatchTests wanted (codeIn s) ++ ((isTaken (codeIn s), notTaken (codeIn s)) ∷ []))
 
 -- size minus 4 does not leave i32
 abbrev pub Held : Bytes → Type 0

@@ -1,6 +1,6 @@
 // What is judged before a record's shape: the wanted kind, the kind's field, the size, and whether the kind is wanted and taken.
-ghost use Rattle.record.specs.Reading.{wantedTests, mismatchTests, frontTests};
-ghost use Rattle.record.specs.Steps.{Judges, foundTests, Fronts};
+ghost use Rattle.record.specs.Reading.{wantedTests, mismatchTests, foundTests, frontTests};
+ghost use Rattle.record.specs.Steps.{Judges, Fronts};
 use crate::RecordAnswer;
 use crate::Wanted;
 use format::kinds::Found;

@@ -22,8 +22,8 @@ use Rattle.writer.specs.declared.judge.Judged.the-variants as JudgedIs
 use Rattle.writer.specs.declared.judge.TablesJudged.the-variants.{Agree, Disagree}
 use Rattle.writer.specs.declared.judge.LengthJudged.the-variants.{Held, Long}
 use Rattle.writer.specs.declared.judge.RoomJudged.the-variants.{Fits, Needs}
-use Rattle.writer.specs.Adding.{Lent, lentShape, lentAgree, heldThen, recordSize, addingOf}
-use Rattle.writer.specs.Judging.{naturalOf, wordsOf, OfCode, formBy, pointsBy, agreeBy, tablesJudged, lengthJudged, roomJudged, shapeTests, KindFine, KindRefused, Passed, Refused, JudgesShape, AllRefused, Judges}
+use Rattle.writer.specs.Adding.{Lent, lentShape, lentAgree, heldThen, recordSize, shapeTests, addingOf}
+use Rattle.writer.specs.Judging.{naturalOf, wordsOf, OfCode, formBy, pointsBy, agreeBy, tablesJudged, lengthJudged, roomJudged, KindFine, KindRefused, Passed, Refused, JudgesShape, AllRefused, Judges}
 use Rattle.writer.specs.State.{stateFine}
 use Rattle.writer.proofs.ShapeLaws.{agree-is, shape-is, words-are, counts-held, formula-words}
 use Rattle.writer.proofs.StateLaws.{fine, words-natural}

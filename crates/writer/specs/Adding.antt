@@ -1,7 +1,7 @@
 -- Adding a record: the order of refusals is 3, 4, 9, 5, 10, 7, 6; the record and the entry are the paper's.
 use mathlib.Core.Path.{_≡_}
 use mathlib.Core.Bool.{Bool, true, false, cond, _&&_, _||_, not}
-use mathlib.Core.List.{List, [], _∷_}
+use mathlib.Core.List.{List, [], _∷_, _++_}
 use mathlib.Core.Option.{Option, none, some}
 use Prim.Native.Nat.{ℕ, _+_, _*_, _-_, _^_, min}
 use lib.Dec.{leb, ltb, eqb}
@@ -103,17 +103,26 @@ recordSize t = 8 + 2 * shapeWords (lentShape t)
 abbrev pub bufferNeeded : ℕ → Lent → ℕ
 bufferNeeded start t = min (start + recordSize t) (2 ^ 64 - 1)
 
-abbrev pub addTests : {A : Type 0} → State → Lent → ℕ → ℕ → ℕ → List (Bool × Said A)
-addTests s t out start entry =
+-- 3, 4, 9 and 5: of the state and the kind; kind 0 takes any
+abbrev pub kindTests : {A : Type 0} → State → ℤ → List (Bool × Said A)
+kindTests s code =
     (stateFine s, wrongSize 0)
-    ∷ (known (t .code), unknown (t .code))
-    ∷ (there (formAt (t .code)) && not (isZero (t .code)), notTaken (t .code))
-    ∷ (isZero (s .kind) || sameInt (s .kind) (t .code), mismatch (s .kind) (t .code))
-    ∷ (lentAgree t, tables)
+    ∷ (known code, unknown code)
+    ∷ (there (formAt code) && not (isZero code), notTaken code)
+    ∷ (isZero (s .kind) || sameInt (s .kind) code, mismatch (s .kind) code)
+    ∷ []
+
+-- 10, 7 and 6: of the tables, the length and the room, the record's buffer first
+abbrev pub shapeTests : {A : Type 0} → State → Lent → ℕ → ℕ → ℕ → List (Bool × Said A)
+shapeTests s t out start entry =
+    (lentAgree t, tables)
     ∷ (heldThen s t, long)
     ∷ (leb (start + recordSize t) out, roomBytes (bufferNeeded start t))
     ∷ (leb 8 entry, roomBytes 8)
     ∷ []
+
+abbrev pub addTests : {A : Type 0} → State → Lent → ℕ → ℕ → ℕ → List (Bool × Said A)
+addTests s t out start entry = kindTests s (t .code) ++ shapeTests s t out start entry
 
 -- ---- what is written, and the next state
 

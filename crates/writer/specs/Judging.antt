@@ -1,7 +1,7 @@
 -- What the parts of adding a record say to each other: the judges' answers, and the shape, its words and the next state by the kind that was found.
 use mathlib.Core.Path.{_≡_}
 use mathlib.Core.Bool.{Bool, true, false, cond, _&&_, _||_, not}
-use mathlib.Core.List.{List, [], _∷_}
+use mathlib.Core.List.{List, _++_}
 use mathlib.Core.Option.{Option, none, some}
 use Prim.Native.Nat.{ℕ, _+_, _*_, _-_, _^_, _≤_, _<_, min}
 use lib.Dec.{leb, ltb, eqb}
@@ -11,13 +11,12 @@ use lib.ListN.{length}
 use Rattle.format.specs.declared.kinds.Kind.{Kind}
 use Rattle.format.specs.declared.lengths.Formula.{Formula}
 use Rattle.format.specs.declared.units.Words.{Words}
-use Rattle.format.specs.Kinds.{known, kindAt}
+use Rattle.format.specs.Kinds.{kindAt}
 use Rattle.format.specs.Encoding.{shapeWords}
 use Rattle.format.specs.Lengths.{Form, onePoint, parts, formOf, formula, contentWords, formAt, formulaWords}
 use Rattle.format.specs.Order.{first}
-use Rattle.format.specs.Said.{Said, gives, wrongSize, unknown, notTaken, mismatch, tables, long, roomBytes}
-use Rattle.format.specs.Shapes.{Shape, parted, sum, there}
-use Rattle.format.specs.Units.{sameInt}
+use Rattle.format.specs.Said.{Said, gives}
+use Rattle.format.specs.Shapes.{Shape, parted, sum}
 use Rattle.header.specs.declared.bbox.BBoxZ.{BBoxZ}
 use Rattle.layouts.specs.Answers.{countsHeld}
 use Rattle.layouts.specs.Tables.{partsOf}
@@ -36,9 +35,9 @@ use Rattle.writer.specs.declared.judge.RoomJudged.{RoomJudged}
 use Rattle.writer.specs.declared.judge.RoomJudged.the-variants.{Fits, Needs}
 use Rattle.writer.specs.declared.judge.Judged.{Judged}
 use Rattle.writer.specs.declared.judge.Judged.the-variants as JudgedIs
-use Rattle.writer.specs.Adding.{Lent, pointShape, lentShape, wordsThen, recordSize, bufferNeeded, lentAgree, heldThen, heldBox, addingOf, saidAdd}
+use Rattle.writer.specs.Adding.{Lent, pointShape, lentShape, wordsThen, recordSize, heldBox, kindTests, shapeTests, addingOf, saidAdd}
 use Rattle.writer.specs.Boxes.{grown, ownBox}
-use Rattle.writer.specs.State.{isZero, stateFine}
+use Rattle.writer.specs.State.{stateFine}
 
 -- ---- numbers and kinds
 
@@ -104,15 +103,6 @@ isRefused AddIs.Tables = true
 isRefused AddIs.Long = true
 isRefused (AddIs.Room n) = true
 
--- the tests of state and kind, before others
-abbrev pub kindTests : State → ℤ → List (Bool × Said ℕ) → List (Bool × Said ℕ)
-kindTests s code more =
-    (stateFine s, wrongSize 0)
-    ∷ (known code, unknown code)
-    ∷ (there (formAt code) && not (isZero code), notTaken code)
-    ∷ (isZero (s .kind) || sameInt (s .kind) code, mismatch (s .kind) code)
-    ∷ more
-
 -- what a kind that passed is known by
 pub record OfCode (code : ℤ) (k : Kind) : Type 0 where
   pub kind-is : kindAt code ≡ some k
@@ -120,13 +110,13 @@ pub record OfCode (code : ℤ) (k : Kind) : Type 0 where
 
 pub record KindFine (s : State) (code : ℤ) (k : Kind) (f : Formula) : Type 0 where
   pub fine : stateFine s ≡ true
-  pub passes : (more : List (Bool × Said ℕ)) (x : Said ℕ) → first (kindTests s code more) x ≡ first more x
+  pub passes : (more : List (Bool × Said ℕ)) (x : Said ℕ) → first (kindTests s code ++ more) x ≡ first more x
   pub of-code : OfCode code k
   pub formula-is : f ≡ formula (formBy k) (k .z) (k .m)
 
 pub record KindRefused (s : State) (code : ℤ) (a : AddAnswer) : Type 0 where
   pub refused : isRefused a ≡ true
-  pub says : (more : List (Bool × Said ℕ)) (x : Said ℕ) → saidAdd a ≡ first (kindTests s code more) x
+  pub says : (more : List (Bool × Said ℕ)) (x : Said ℕ) → saidAdd a ≡ first (kindTests s code ++ more) x
 
 abbrev pub JudgesKind : State → ℤ → KindJudged → Type 0
 JudgesKind s code (KindIs.Fine k f) = KindFine s code k f
@@ -141,15 +131,6 @@ lengthJudged words f p n =
 
 abbrev pub roomJudged : ℕ → ℕ → ℕ → ℕ → RoomJudged
 roomJudged size out start entry = cond (leb (start + size) out) (cond (leb 8 entry) (Fits size) (Needs 8)) (Needs (min (start + size) (2 ^ 64 - 1)))
-
--- the tests of the tables, the length and the room
-abbrev pub shapeTests : State → Lent → ℕ → ℕ → ℕ → List (Bool × Said ℕ)
-shapeTests s t out start entry =
-    (lentAgree t, tables)
-    ∷ (heldThen s t, long)
-    ∷ (leb (start + recordSize t) out, roomBytes (bufferNeeded start t))
-    ∷ (leb 8 entry, roomBytes 8)
-    ∷ []
 
 pub record Passed (s : State) (t : Lent) (out start entry : ℕ) (k : Kind) (w : Words) (size : ℕ) : Type 0 where
   pub of-code : OfCode (t .code) k
