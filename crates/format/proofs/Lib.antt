@@ -2,6 +2,7 @@
 pub mod ByteLaws
 pub mod Cuts
 pub mod Doubles
+pub mod Equations
 pub mod FiniteLaws
 pub mod KindLaws
 pub mod Laid
