@@ -1,1 +1,2 @@
+-- One record more, as a statement on the two files.
 pub mod OneMore

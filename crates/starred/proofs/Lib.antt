@@ -1,1 +1,2 @@
+-- That every row of the table is as document 01 says: by computation.
 pub mod Holds

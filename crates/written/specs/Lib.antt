@@ -1,1 +1,2 @@
+-- What reading gives of what was written, as a statement.
 pub mod Written
