@@ -1,0 +1,2 @@
+-- A law of the definitions of specs/; what they mean is proved in `meaning`.
+pub mod Numbered
