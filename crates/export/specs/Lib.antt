@@ -1,5 +1,6 @@
 -- What crosses to C and Rust: each answer of the library as a struct, with document 01's number and values of a refusal.
 pub mod Headers
+pub mod Numbers
 pub mod Pairs
 pub mod Records
 pub mod Refusals

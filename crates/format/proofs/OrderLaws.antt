@@ -10,7 +10,7 @@ use lib.Dec.{T, leb}
 use lib.ListN.{length, drop}
 use borrow.Author.Tests.{le-leb, leb-true, leb-false}
 use Rattle.format.specs.Order.{first, fieldsFrom}
-use Rattle.format.specs.Said.{Said, gives, refuses}
+use Rattle.format.specs.Said.{Said, gives, refuses, short, Numbered}
 
 -- where the field of w bytes stands that l bytes end inside, after one more field
 next-cut : (w : ℕ) → 0 < w → (at l : ℕ) → at + w ≤ l → at + w + (l - (at + w)) / w * w ≡ at + (l - at) / w * w
@@ -165,6 +165,29 @@ module _ {A : Type 0} (a x : A) where
 
     pub given : a ≡ x
     given = let q = pass (gives x) ts (gives a) (no-gifts ts r) e .1 in cc
+
+-- ---- refusals that have document 01's numbers
+
+module _ {A : Type 0} where
+  abbrev pub AllNumbered : List (Bool × Said A) → Type 0
+  AllNumbered [] = Unit {0}
+  AllNumbered (t ∷ ts) = Numbered (t .1) × AllNumbered ts
+
+  pub cond-numbered : (b : Bool) (x y : Said A) → Numbered x → Numbered y → Numbered (cond b x y)
+  cond-numbered true x y p q = p
+  cond-numbered false x y p q = q
+
+  pub first-numbered : (ts : List (Bool × Said A)) (a : Said A) → AllNumbered ts → Numbered a → Numbered (first ts a)
+  first-numbered [] a p q = q
+  first-numbered (t ∷ ts) a p q = cond-numbered (t .0) (first ts a) (t .1) (first-numbered ts a (p .1) q) (p .0)
+
+  pub append-numbered : (ts us : List (Bool × Said A)) → AllNumbered ts → AllNumbered us → AllNumbered (ts ++ us)
+  append-numbered [] us p q = q
+  append-numbered (t ∷ ts) us p q = (p .0, append-numbered ts us (p .1) q)
+
+pub fields-numbered : (A : Type 0) (w n at : ℕ) (s : List ℕ) → AllNumbered (fieldsFrom {A = Said A} w n at s short)
+fields-numbered A w zero at s = tt
+fields-numbered A w (suc n) at s = (omega arith, fields-numbered A w n (at + w) s)
 
 -- ---- rules have numbers, and no fault is 0
 

@@ -1,6 +1,6 @@
 -- What a call answers, in document 01's terms: a value, or a refusal with its number and what it returns ("What comes back").
 use mathlib.Core.List.{List, [], _∷_}
-use Prim.Native.Nat.{ℕ}
+use Prim.Native.Nat.{ℕ, _≤_}
 use lib.IntN.{ℤ, pos}
 
 pub data Said (A : Type 0) : Type 0 where
@@ -55,3 +55,8 @@ module _ {A : Type 0} where
 abbrev pub unlessRefused {ℓ} : {A : Type 0} {B : Type ℓ} → Said A → B → B → B
 unlessRefused (gives a) before after = after
 unlessRefused (refuses n values) before after = before
+
+-- a refusal has one of document 01's numbers
+abbrev pub Numbered : {A : Type 0} → Said A → Type 0
+Numbered (gives a) = Unit {0}
+Numbered (refuses n values) = (1 ≤ n) × (n ≤ 10)

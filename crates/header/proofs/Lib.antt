@@ -1,5 +1,6 @@
 -- Laws of this crate's definitions, and its theorems.
 pub mod EntryLaws
+pub mod Numbered
 pub mod ReadLaws
 pub mod RoundTrip
 pub mod SaidLaws

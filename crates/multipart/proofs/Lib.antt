@@ -3,6 +3,7 @@ mod BodyLaws
 mod CountLaws
 pub mod Determined
 pub mod NearLaws
+pub mod Numbered
 mod PartLaws
 pub mod RestLaws
 mod StoreLaws

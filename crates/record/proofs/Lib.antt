@@ -1,6 +1,7 @@
 -- The laws of this crate's definitions, as the code meets them.
 pub mod Determined
 mod FrontLaws
+pub mod Numbered
 mod PartsLaws
 mod PointLaws
 mod ShapeLaws

@@ -1,1 +1,2 @@
 -- The laws of the rules, which the checker's proofs and the theorem on its meaning cite.
+pub mod Numbered

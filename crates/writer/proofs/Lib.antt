@@ -7,6 +7,7 @@ mod FinishLaws
 mod JudgeLaws
 pub mod KindLaws
 mod LengthLaws
+pub mod Numbered
 mod PassLaws
 pub mod ShapeLaws
 pub mod StateLaws

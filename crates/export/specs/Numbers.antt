@@ -1,0 +1,42 @@
+-- What a caller may conclude from the number that crosses: 0 says that a value is given, and any other is document 01's number of the refusal.
+use mathlib.Core.Path.{_≡_}
+use mathlib.Core.Bool.{Bool, true, false}
+use mathlib.Core.List.{List}
+use Prim.Native.Nat.{ℕ, _≤_}
+use lib.Dec.{eqb}
+use lib.Ieee.{Float}
+use Rattle.format.specs.declared.units.Bytes.{Bytes}
+use Rattle.format.specs.Said.{Said, gives, refuses}
+use Rattle.header.specs.Entries.{twoOf, recordHeader, shapeIndex}
+use Rattle.header.specs.Reading.{headerOf}
+use Rattle.record.specs.declared.Wanted.{Wanted}
+use Rattle.record.specs.Reading.{recordOf}
+use Rattle.rings.specs.Answers.{closedOf, turningOf, closingOf}
+use Rattle.rules.specs.Rules.{verdict}
+use Rattle.writer.specs.declared.State.{State}
+use Rattle.writer.specs.Adding.{Lent, addingOf}
+use Rattle.export.specs.Refusals.{refusalOf}
+use Rattle.export.specs.Writing.{finishingOf}
+
+module _ {A : Type 0} where
+  -- whether a value is given
+  abbrev pub isGiven : Said A → Bool
+  isGiven (gives a) = true
+  isGiven (refuses n values) = false
+
+  -- the number tells it: 0 where a value is given, and 1 to 10 where not
+  abbrev pub Tells : Said A → Type 0
+  Tells said = (eqb (refusalOf said .number) 0 ≡ isGiven said) × (refusalOf said .number ≤ 10)
+
+-- so it is for what each call says
+pub record NumberTells : Type 0 where
+  pub header : (s : List ℕ) → Tells (headerOf s)
+  pub record-header : (s : List ℕ) → Tells (twoOf recordHeader s)
+  pub index-entry : (s : List ℕ) → Tells (twoOf shapeIndex s)
+  pub reading : (wanted : Wanted) (size : Bytes) (s : List ℕ) (counts xy zs ms : ℕ) → Tells (recordOf wanted size s counts xy zs ms)
+  pub pair : (shp shx : List ℕ) → Tells (verdict shp shx)
+  pub adding : (s : State) (t : Lent) (out start entry : ℕ) → Tells (addingOf s t out start entry)
+  pub finishing : (s : State) → Tells (finishingOf s)
+  pub closed : (xy : List Float) → Tells (closedOf xy)
+  pub turning : (xy : List Float) → Tells (turningOf xy)
+  pub closing : (store : List Float) (run : ℕ) → Tells (closingOf store run)
