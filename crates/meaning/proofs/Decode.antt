@@ -15,10 +15,10 @@ use Rattle.format.specs.Shapes.{BoxXY, Measure, Parts, Shape, null, point, part
 use Rattle.format.proofs.Runs.{numbers}
 use Rattle.format.proofs.Cuts.{cut}
 use Rattle.format.proofs.Doubles.{value, measured, count, zIn, mIn}
-use Rattle.format.proofs.Pairs.{pairs}
+use Rattle.format.proofs.Pairs.{nowhere, pairs}
 use Rattle.format.proofs.Laid.{parts-words}
 use Rattle.rules.specs.Rules.{littleAt, doubleAt, wordsOf, pairsAt}
-use Rattle.meaning.proofs.Ends.{endsAt, nowhere}
+use Rattle.rules.proofs.Ends.{endsAt}
 
 -- ---- m
 
