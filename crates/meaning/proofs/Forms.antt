@@ -20,10 +20,9 @@ use Rattle.format.proofs.Places.{Stands}
 use Rattle.rules.specs.Rules.{Taken, wordsOf, partsOf, pointsOf}
 use Rattle.rules.proofs.FaultLaws.{Met}
 use Rattle.meaning.proofs.BackParts.{parts-read, points-read, parts-same, parts-met}
-use Rattle.meaning.proofs.Decode.{shapeAt}
+use Rattle.meaning.proofs.Decode.{shapeAt, Shaped}
 use Rattle.meaning.proofs.Points.{same-twice, read-point, point-same, point-met}
 use Rattle.meaning.proofs.ReadParts.{read-parts}
-use Rattle.meaning.proofs.Shaped.{Shaped}
 
 read-nothing : (k : Kind) (l : List ℕ) → formOf k ≡ some nothing → Met (record { kind = k; form = nothing }) l → Shaped (record { kind = k; form = nothing }) l null
 read-nothing k l f met =

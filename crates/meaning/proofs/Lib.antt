@@ -12,7 +12,6 @@ pub mod Only
 pub mod Points
 pub mod ReadParts
 pub mod Record
-pub mod Shaped
 pub mod Skip
 pub mod Split
 pub mod Table

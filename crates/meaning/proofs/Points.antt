@@ -23,8 +23,7 @@ use Rattle.format.proofs.Laid.{point-words, pointDoubles, point-laid, any-right
 use Rattle.rules.specs.Rules.{wordsOf}
 use Rattle.rules.proofs.FiniteLaws.{finites-all, finites-true}
 use Rattle.rules.proofs.FaultLaws.{Met}
-use Rattle.meaning.proofs.Decode.{pointCount, pointFrom, shapeAt}
-use Rattle.meaning.proofs.Shaped.{Shaped}
+use Rattle.meaning.proofs.Decode.{pointCount, pointFrom, shapeAt, Shaped}
 
 pub same-twice : (a : Bool) → (a || a) ≡ true → a ≡ true
 same-twice true e = refl

@@ -29,8 +29,7 @@ use Rattle.rules.specs.Rules.{littleAt, wordsOf, pairsAt, held, finites, partsL
 use Rattle.rules.proofs.FiniteLaws.{finites-all}
 use Rattle.rules.proofs.Ends.{endsAt, length-endsAt, starts-at, rise-of, at-point, parts-fine}
 use Rattle.rules.proofs.FaultLaws.{Met}
-use Rattle.meaning.proofs.Decode.{hasM, m-words, partsCount, partsFrom, partsAt, shapeAt, only-if}
-use Rattle.meaning.proofs.Shaped.{Shaped}
+use Rattle.meaning.proofs.Decode.{hasM, m-words, partsCount, partsFrom, partsAt, shapeAt, only-if, Shaped}
 
 module _ (k : Kind) (l : List ℕ) (b : AllBytes l) (f : formOf k ≡ some Lengths.parts) (met : Met (record { kind = k; form = Lengths.parts }) l) where
   abbrev p : ℕ

@@ -15,10 +15,9 @@ use Rattle.format.proofs.Places.{Stands, stands-within}
 use Rattle.format.proofs.Records.{first-read, second-read, two-stands, record-laid, in-header, in-shape, code-read}
 use Rattle.rules.specs.Rules.{Taken, bigAt, wordsOf}
 use Rattle.rules.proofs.FaultLaws.{Fine}
-use Rattle.meaning.proofs.Decode.{shapeAt}
+use Rattle.meaning.proofs.Decode.{shapeAt, Shaped}
 use Rattle.meaning.proofs.Forms.{read, Back, back-as}
 use Rattle.meaning.proofs.Table.{Known}
-use Rattle.meaning.proofs.Shaped.{Shaped}
 
 -- a well-formed shape of the kind, as record n at word w, with its numbers held
 pub record Encodable (k : Kind) (n w : ℕ) (s : Shape) : Type 0 where
