@@ -1,14 +1,16 @@
 -- A run of points cut into parts by where they end: what is cut and laid together again is as it was, and so are the ends and the starts.
-use mathlib.Core.Path.{_≡_, refl, ap}
+use mathlib.Core.Path.{_≡_, refl, sym, ap}
 use mathlib.Core.List.{List, [], _∷_, _++_, flatten}
 use Prim.Native.Nat.{ℕ, suc, _+_, _-_, _^_, _≤_, _<_}
 use native.Mathlib.Nat.{add-zero}
 use native.Mathlib.Omega.{arith}
 use lib.ListN.{length, take, drop, length-append, length-drop, take-append-drop}
 use lib.Seq.{length-take-le, take-at, drop-at}
+use Rattle.format.specs.declared.kinds.Kind.{Kind}
 use Rattle.format.specs.Bytes.{Fit}
 use Rattle.format.specs.Encoding.{startsFrom}
 use Rattle.format.specs.Shapes.{Point}
+use Rattle.format.specs.WellFormed.{leastPoints, PartsFine}
 
 -- where each part ends, the first of them from point cur on
 unfoldable pub endsFrom : ℕ → List (List Point) → List ℕ
@@ -19,6 +21,14 @@ endsFrom cur (part ∷ parts) = (cur + length part) ∷ endsFrom (cur + length p
 unfoldable pub cut : ℕ → List ℕ → List Point → List (List Point)
 cut cur [] ps = []
 cut cur (e ∷ es) ps = take (e - cur) ps ∷ cut e es (drop (e - cur) ps)
+
+pub cut-nil : (cur : ℕ) (ps : List Point) → cut cur [] ps ≡ []
+unfolding cut
+cut-nil cur ps = refl
+
+pub cut-cons : (cur e : ℕ) (es : List ℕ) (ps : List Point) → cut cur (e ∷ es) ps ≡ take (e - cur) ps ∷ cut e es (drop (e - cur) ps)
+unfolding cut
+cut-cons cur e es ps = refl
 
 -- each has at least so many points, and the last one ends at n
 abbrev pub Rise : ℕ → ℕ → List ℕ → ℕ → Type 0
@@ -78,3 +88,11 @@ module _ (least : ℕ) where
       let t : length (take (e - cur) ps) ≡ e - cur = length-take-le (e - cur) ps (omega arith) in
       let q : cur + length (take (e - cur) ps) ≡ e = omega arith in
       rw q (ap (_∷_ e) (ends-cut e es (drop (e - cur) ps) n (r .1) (rw length-drop (omega arith))))
+
+-- parts that are well-formed have their ends so
+pub rise-fine : (k : Kind) (cur : ℕ) (parts : List (List Point)) → PartsFine k parts → Rise (leastPoints k) cur (endsFrom cur parts) (cur + length (flatten parts))
+unfolding endsFrom flatten
+rise-fine k cur [] f = sym (add-zero cur)
+rise-fine k cur (part ∷ parts) f =
+    let e : cur + length (part ++ flatten parts) ≡ cur + length part + length (flatten parts) = omega (arith, length-append part (flatten parts)) in
+    (omega (arith, f .0), rw e (rise-fine k (cur + length part) parts (f .2)))

@@ -1,16 +1,19 @@
 -- Doubles that are finite: by the test that code can make on the bits, one whose exponent's field is not all ones; and lists of them.
 use mathlib.Core.Path.{_≡_, refl}
 use mathlib.Core.Bool.{Bool, true, false, cond, not}
-use mathlib.Core.List.{List, [], _∷_, _++_}
+use mathlib.Core.List.{List, [], _∷_, _++_, flatten}
 use mathlib.Core.Option.{Option, none, some}
 use Prim.Native.Nat.{ℕ, zero, suc, _+_, _/_, _%_, _^_}
 use lib.Dec.{eqb, leb}
+use lib.ListN.{length}
 use lib.Ieee.{Float, nan, inf, binary64, prec, low, odd, hid, top, ofFields, ofBits}
+use Rattle.format.specs.declared.kinds.Kind.{Kind}
 use Rattle.format.specs.Numbers.{isFinite, finite}
 use Rattle.format.specs.Bytes.{Fit}
-use Rattle.format.specs.Shapes.{Measure}
-use Rattle.format.specs.WellFormed.{AllFinite, valueFinite, measureFinite}
+use Rattle.format.specs.Shapes.{Measure, Parts}
+use Rattle.format.specs.WellFormed.{AllFinite, valueFinite, measureFinite, coordinates, PartsWellFormed}
 use Rattle.format.proofs.Doubles.{value, measured, writeIf}
+use Rattle.format.proofs.Laid.{partsDoubles}
 
 odd-finite : (d : ℕ) (s : Bool) (q k l : ℕ) → isFinite (odd d s q k l) ≡ true
 unfolding odd
@@ -65,3 +68,28 @@ measure-finite n (some r) f = f
 pub finite-measure : (n : ℕ) (o : Option Measure) → measureFinite o → AllFinite (writeIf (measured n) o)
 finite-measure n none f = tt
 finite-measure n (some r) f = f
+
+-- the doubles behind the starts of parts: the points, z and m
+module _ (s : Parts) where
+  abbrev n : ℕ
+  n = length (flatten (s .parts))
+
+  abbrev z : List ℕ
+  z = writeIf (measured n) (s .z)
+
+  abbrev m : List ℕ
+  m = writeIf (measured n) (s .m)
+
+  pub finite-parts : (k : Kind) → PartsWellFormed k s → AllFinite (partsDoubles s)
+  unfolding partsDoubles
+  finite-parts k v =
+      finite-append (coordinates (flatten (s .parts))) (z ++ m) (v .points) (finite-append z m (finite-measure n (s .z) (v .z)) (finite-measure n (s .m) (v .m)))
+
+  pub parts-finite : AllFinite (partsDoubles s) → AllFinite (coordinates (flatten (s .parts))) × measureFinite (s .z) × measureFinite (s .m)
+  unfolding partsDoubles
+  parts-finite f =
+      let zm = finite-back (coordinates (flatten (s .parts))) (z ++ m) f in (
+        finite-front (coordinates (flatten (s .parts))) (z ++ m) f,
+        measure-finite n (s .z) (finite-front z m zm),
+        measure-finite n (s .m) (finite-back z m zm),
+      )

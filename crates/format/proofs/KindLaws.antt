@@ -1,13 +1,13 @@
 -- Laws of the table of kinds: a search that has come to row i, and codes by their sign.
 use mathlib.Core.Path.{_≡_, refl, sym, ap, _∙_, subst}
-use mathlib.Core.Bool.{Bool, true, false, cond, _&&_}
+use mathlib.Core.Bool.{Bool, true, false, cond, _&&_, _||_, not}
 use mathlib.Core.List.{List, [], _∷_}
 use mathlib.Core.Option.{Option, none, some}
-use Prim.Native.Nat.{ℕ, zero, suc, _+_, _≤_, _<_}
+use Prim.Native.Nat.{ℕ, zero, suc, _+_, _^_, _≤_, _<_}
 use native.Mathlib.Nat.{not-suc-le-zero, le-of-suc-le-suc}
 use native.Mathlib.Numerals.{add-one}
 use native.Mathlib.Omega.{arith}
-use lib.Dec.{T, eqb}
+use lib.Dec.{T, eqb, ltb}
 use lib.IntN.{ℤ, pos, negsuc, natAbs}
 use lib.ListN.{length, getD, getElem?, drop}
 use lib.Seq.{drop-cons}
@@ -15,7 +15,11 @@ use lib.Signed.{ltZ}
 use borrow.Author.Tests.{ltb-true, eq-eqb, eqb-true, ne-eqb}
 use Rattle.format.specs.declared.kinds.Kind.{Kind}
 use Rattle.format.specs.declared.kinds.Found.the-variants.{Is, Unknown}
+use Rattle.format.specs.Encoding.{Held}
 use Rattle.format.specs.Kinds.{kinds, rowOf, kindAt, found, kindOf}
+use Rattle.format.specs.Lengths.{Form, nothing, onePoint, formOf}
+use Rattle.format.specs.Lengths
+use Rattle.format.specs.WellFormed.{hasRings}
 use Rattle.format.proofs.OrderLaws.{both-true}
 
 -- with d for a row past the end: the search ends at row i, or goes on
@@ -58,6 +62,37 @@ row-in ok (r ∷ rows) (suc i) k t e = row-in ok rows i k (both-true (ok r) (eve
 pub of-table : (ok : Kind → Bool) → every ok kinds ≡ true → (z : ℤ) (k : Kind) → kindAt z ≡ some k → ok k ≡ true
 of-table ok t (pos n) k e = row-in ok kinds (rowOf n kinds) k t e
 of-table ok t (negsuc n) k e = absurd (let z : _≡_ {A = ℕ} 0 1 = cc in omega arith)
+
+-- ---- in every row an i32 field holds the code, and rings are parts
+
+abbrev hasParts : Option Form → Bool
+hasParts none = false
+hasParts (some nothing) = false
+hasParts (some onePoint) = false
+hasParts (some Lengths.parts) = true
+
+abbrev right : Kind → Bool
+right k = ltb (k .code) (2 ^ 31) && (not (hasRings k) || hasParts (formOf k))
+
+table : every right kinds ≡ true
+unfolding kinds hasRings formOf
+table = refl
+
+parts-of : (o : Option Form) → hasParts o ≡ true → o ≡ some Lengths.parts
+parts-of none e = absurd (let z : _≡_ {A = ℕ} 0 1 = cc in omega arith)
+parts-of (some nothing) e = absurd (let z : _≡_ {A = ℕ} 0 1 = cc in omega arith)
+parts-of (some onePoint) e = absurd (let z : _≡_ {A = ℕ} 0 1 = cc in omega arith)
+parts-of (some Lengths.parts) e = refl
+
+module _ (z : ℤ) (k : Kind) (e : kindAt z ≡ some k) where
+  tests : (ltb (k .code) (2 ^ 31) ≡ true) × ((not (hasRings k) || hasParts (formOf k)) ≡ true)
+  tests = both-true _ _ (of-table right table z k e)
+
+  pub code-held : Held (k .code)
+  code-held = ltb-true _ _ (tests .0)
+
+  pub rings-parts : hasRings k ≡ true → formOf k ≡ some Lengths.parts
+  rings-parts r = parts-of (formOf k) (rw r at (tests .1))
 
 -- ---- what the lookup says of the row
 

@@ -9,7 +9,7 @@ use lib.ListN.{length, length-append}
 use Rattle.format.specs.declared.kinds.Kind.{Kind}
 use Rattle.format.specs.Bytes.{leBytes}
 use Rattle.format.specs.Encoding.{doubles, pointBytes, boxBytes, startsFrom, valueBytes, measureBytes, partsBytes, shapeBytes, content, shapeWords, recordBytes}
-use Rattle.format.specs.Lengths.{onePoint, fixedWords, pointWords, contentWords}
+use Rattle.format.specs.Lengths.{nothing, onePoint, fixedWords, pointWords, contentWords}
 use Rattle.format.specs.Lengths
 use Rattle.format.specs.Numbers.{little, double}
 use Rattle.format.specs.Shapes.{Point, BoxXY, Measure, Parts, Shape, null, point, parted, there, Covers, PartsOf, OfKind}
@@ -21,6 +21,14 @@ use Rattle.format.proofs.Doubles.{value, measured, writeIf, RightIf, al
 use Rattle.format.proofs.Cuts.{length-startsFrom}
 
 -- ---- words
+
+pub nothing-words : (z m : Bool) → contentWords nothing z m 0 0 ≡ 2
+unfolding contentWords fixedWords pointWords
+nothing-words z m = refl
+
+pub null-words : shapeWords null ≡ 2
+unfolding shapeWords contentWords fixedWords pointWords
+null-words = refl
 
 pub point-words : (z m : Bool) → contentWords onePoint z m 0 1 ≡ 2 + 4 * count value 1 z m
 unfolding contentWords fixedWords pointWords
@@ -59,6 +67,10 @@ pointDoubles xy z m = all value (xy ∷ []) z m
 
 unfoldable pub partsDoubles : Parts → List ℕ
 partsDoubles s = all (measured (length (flatten (s .parts)))) (flatten (s .parts)) (s .z) (s .m)
+
+pub doubles-are : (s : Parts) → partsDoubles s ≡ all (measured (length (flatten (s .parts)))) (flatten (s .parts)) (s .z) (s .m)
+unfolding partsDoubles
+doubles-are s = refl
 
 abbrev pub boxDoubles : BoxXY → List ℕ
 boxDoubles b = b .xmin ∷ b .ymin ∷ b .xmax ∷ b .ymax ∷ []

@@ -4,6 +4,7 @@ pub mod Cuts
 pub mod Doubles
 pub mod Equations
 pub mod FiniteLaws
+pub mod HeaderLaws
 pub mod KindLaws
 pub mod Laid
 pub mod LayoutLaws
@@ -13,6 +14,8 @@ pub mod NumberLaws
 pub mod OrderLaws
 pub mod Pairs
 pub mod Places
+pub mod Records
+pub mod Rings
 pub mod Runs
 pub mod SaidLaws
 pub mod SignLaws

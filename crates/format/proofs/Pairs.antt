@@ -12,6 +12,14 @@ unfoldable pub pairs : ℕ → List ℕ → List Point
 pairs zero ds = []
 pairs (suc n) ds = record { x = getD ds 0 0; y = getD ds 1 0 } ∷ pairs n (drop 2 ds)
 
+-- the point that stands for those past the end
+pub nowhere : Point
+nowhere = record { x = 0; y = 0 }
+
+pub pairs-one : (ds : List ℕ) → pairs 1 ds ≡ record { x = getD ds 0 0; y = getD ds 1 0 } ∷ []
+unfolding pairs
+pairs-one ds = refl
+
 pub length-pairs : (n : ℕ) (ds : List ℕ) → length (pairs n ds) ≡ n
 unfolding pairs
 length-pairs zero ds = refl

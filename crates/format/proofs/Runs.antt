@@ -14,6 +14,19 @@ unfoldable pub numbers : ℕ → ℕ → ℕ → List ℕ → List ℕ
 numbers w zero at s = []
 numbers w (suc n) at s = le (field w at s) ∷ numbers w n (at + w) s
 
+pub numbers-zero : (w at : ℕ) (s : List ℕ) → numbers w 0 at s ≡ []
+unfolding numbers
+numbers-zero w at s = refl
+
+pub numbers-suc : (w n at : ℕ) (s : List ℕ) → numbers w (suc n) at s ≡ le (field w at s) ∷ numbers w n (at + w) s
+unfolding numbers
+numbers-suc w n at s = refl
+
+pub four-numbers : (w at : ℕ) (s : List ℕ)
+    → numbers w 4 at s ≡ le (field w at s) ∷ le (field w (at + w) s) ∷ le (field w (at + w + w) s) ∷ le (field w (at + w + w + w) s) ∷ []
+unfolding numbers
+four-numbers w at s = refl
+
 -- and the bytes of numbers
 abbrev pub run : ℕ → List ℕ → List ℕ
 run w ds = flatten (map (leBytes w) ds)

@@ -1,6 +1,6 @@
 -- The file of well-formed shapes of a taken kind gets a yes with its counts; and its kind, box and shapes are read back from its bytes.
 use mathlib.Core.Path.{_≡_, sym, ap, ap₂, _∙_, subst}
-use mathlib.Core.List.{List, [], append-nil}
+use mathlib.Core.List.{List, [], _++_, append-nil}
 use Prim.Native.Nat.{ℕ, _+_, _*_}
 use native.Mathlib.Nat.{zero-add}
 use native.Mathlib.Omega.{arith}
@@ -8,21 +8,24 @@ use lib.IntN.{pos}
 use lib.ListN.{length, drop, length-append}
 use lib.Seq.{drop-at}
 use Rattle.format.specs.declared.kinds.Kind.{Kind}
-use Rattle.format.specs.Encoding.{Box, boxDoubles, headerBytes, recordsFrom, endFrom, shpBytes, shxBytes}
+use Rattle.format.specs.Encoding.{Box, boxDoubles, headerBytes, recordsFrom, endFrom}
 use Rattle.format.specs.Kinds.{kindAt}
 use Rattle.format.specs.Said.{gives}
 use Rattle.format.specs.Shapes.{Shape}
+use Rattle.format.proofs.Equations.{shp-is, shx-is}
+use Rattle.format.proofs.Records.{entriesBytes, length-entries}
 use Rattle.format.proofs.Runs.{numbers}
 use Rattle.format.proofs.Places.{Stands, in-front}
+use Rattle.format.proofs.HeaderLaws.{length-header, top-read, tail-read, magic-read, unused-read, words-read, version-read, code-read, box-read}
 use Rattle.rules.specs.Meaning.{FileOf, Encoded}
-use Rattle.rules.specs.Rules.{Taken, Counts, bigAt, littleAt, finish, walkFrom, none-yet, verdict}
-use Rattle.meaning.proofs.FiniteLaws.{finites-true}
-use Rattle.meaning.proofs.Header.{length-header, top-read, tail-read, magic-read, unused-read, words-read, version-read, code-read, box-read}
-use Rattle.meaning.proofs.HeaderRules.{Headers, headers-fine, name-taken}
-use Rattle.meaning.proofs.Sizes.{entriesBytes, length-records, length-entries}
+use Rattle.rules.specs.Rules.{Taken, Counts, bigAt, littleAt, walkFrom, none-yet, verdict}
+use Rattle.rules.proofs.FiniteLaws.{finites-true}
+use Rattle.rules.proofs.HeaderRules.{Headers, headers-fine, name-taken}
+use Rattle.rules.proofs.VerdictLaws.{finish-gives, verdict-walk}
+use Rattle.rules.proofs.WalkLaws.{walk-end}
+use Rattle.meaning.proofs.EachRecord.{length-records}
 use Rattle.meaning.proofs.Skip.{plus, skips}
 use Rattle.meaning.proofs.Table.{Known, known}
-use Rattle.meaning.proofs.WalkLaws.{walk-end}
 
 module _ (k : Kind) (box : Box) (ss : List Shape) (shp shx : List ℕ) (f : FileOf k box ss shp shx) where
   abbrev pub taken : Taken
@@ -37,32 +40,32 @@ module _ (k : Kind) (box : Box) (ss : List Shape) (shp shx : List ℕ) (f : File
   abbrev shx-front : List ℕ
   shx-front = headerBytes (50 + 4 * length ss) 1000 (k .code) box
 
+  shp-laid : shp-front ++ recordsFrom k 1 ss ≡ shp
+  shp-laid = sym (shp-is k box ss) ∙ f .is .shp-is
+
+  shx-laid : shx-front ++ entriesBytes 50 ss ≡ shx
+  shx-laid = sym (shx-is k box ss) ∙ f .is .shx-is
+
   shp-header : Stands 0 shp-front shp
-  unfolding shpBytes
-  shp-header = subst (Stands 0 shp-front) (f .is .shp-is) (in-front shp-front (recordsFrom k 1 ss))
+  shp-header = subst (Stands 0 shp-front) shp-laid (in-front shp-front (recordsFrom k 1 ss))
 
   shx-header : Stands 0 shx-front shx
-  unfolding shxBytes
-  shx-header = subst (Stands 0 shx-front) (f .is .shx-is) (in-front shx-front (entriesBytes 50 ss))
+  shx-header = subst (Stands 0 shx-front) shx-laid (in-front shx-front (entriesBytes 50 ss))
 
   -- what stands behind the headers
   pub records-behind : drop 100 shp ≡ recordsFrom k 1 ss
-  unfolding shpBytes
-  records-behind = ap (drop 100) (sym (f .is .shp-is)) ∙ drop-at shp-front (recordsFrom k 1 ss) 100 (length-header _ _ _)
+  records-behind = ap (drop 100) (sym shp-laid) ∙ drop-at shp-front (recordsFrom k 1 ss) 100 (length-header _ _ _)
 
   pub entries-behind : drop 100 shx ≡ entriesBytes 50 ss
-  unfolding shxBytes
-  entries-behind = ap (drop 100) (sym (f .is .shx-is)) ∙ drop-at shx-front (entriesBytes 50 ss) 100 (length-header _ _ _)
+  entries-behind = ap (drop 100) (sym shx-laid) ∙ drop-at shx-front (entriesBytes 50 ss) 100 (length-header _ _ _)
 
   length-shp : length shp ≡ 2 * endFrom 50 ss
-  unfolding shpBytes
   length-shp =
-      omega (arith, ap length (f .is .shp-is), length-append shp-front (recordsFrom k 1 ss), length-header (endFrom 50 ss) (k .code) box, length-records k 1 50 ss (f .fine))
+      omega (arith, ap length shp-laid, length-append shp-front (recordsFrom k 1 ss), length-header (endFrom 50 ss) (k .code) box, length-records k 1 50 ss (f .fine))
 
   length-shx : length shx ≡ 100 + 8 * length ss
-  unfolding shxBytes
   length-shx =
-      omega (arith, ap length (f .is .shx-is), length-append shx-front (entriesBytes 50 ss), length-header (50 + 4 * length ss) (k .code) box, length-entries 50 ss)
+      omega (arith, ap length shx-laid, length-append shx-front (entriesBytes 50 ss), length-header (50 + 4 * length ss) (k .code) box, length-entries 50 ss)
 
   -- what the headers say
   pub code-same : littleAt 32 shp ≡ k .code
@@ -98,15 +101,13 @@ module _ (k : Kind) (box : Box) (ss : List Shape) (shp shx : List ℕ) (f : File
 
   -- the walk comes to the end of both
   walked : walkFrom taken (drop 100 shp) (drop 100 shx) 100 none-yet ≡ gives (plus none-yet ss)
-  unfolding finish
   walked =
       ap₂ (λ (l x : List ℕ). walkFrom taken l x 100 none-yet) (records-behind ∙ sym (append-nil _)) (entries-behind ∙ sym (append-nil _))
       ∙ (skips taken kind-known ss 50 none-yet [] [] (f .fine) (f .is .held)
-      ∙ walk-end taken [] (2 * endFrom 50 ss) (plus none-yet ss))
+      ∙ (walk-end taken [] (2 * endFrom 50 ss) (plus none-yet ss) ∙ finish-gives (plus none-yet ss)))
 
   yes : verdict shp shx ≡ gives (plus none-yet ss)
-  unfolding verdict
-  yes = rw (headers-fine shp shx taken headers-right, name-taken shp taken (headers-right .kind)) walked
+  yes = verdict-walk shp shx taken (headers-fine shp shx taken headers-right) (name-taken shp taken (headers-right .kind)) ∙ walked
 
 pub always : (shp shx : List ℕ) (c : Counts) → Encoded shp shx c → verdict shp shx ≡ gives c
 always shp shx c e =

@@ -13,21 +13,22 @@ use Rattle.format.specs.Encoding.{startsFrom, shapeBytes, shapeWords, Held}
 use Rattle.format.specs.Lengths.{contentWords}
 use Rattle.format.specs.Lengths
 use Rattle.format.specs.Shapes.{Parts, parted, there, PartsOf}
-use Rattle.format.specs.WellFormed.{hasRings, leastPoints, AllFinite, PartsFine, PartsWellFormed, coordinates}
+use Rattle.format.specs.WellFormed.{hasRings, leastPoints, AllFinite, PartsFine, PartsWellFormed}
 use Rattle.format.proofs.ByteLaws.{length-leBytes}
-use Rattle.format.proofs.FiniteLaws.{finite-fit, finite-append, finite-measure}
+use Rattle.format.proofs.Equations.{words-parted}
+use Rattle.format.proofs.FiniteLaws.{finite-fit, finite-parts}
 use Rattle.format.proofs.Places.{Stands, front, back, le-back}
-use Rattle.format.proofs.Runs.{numbers, numbers-back, run, length-run}
-use Rattle.format.proofs.Cuts.{fit-starts, cut, endsFrom, Rise, starts-ends, length-startsFrom, cut-ends}
+use Rattle.format.proofs.Runs.{numbers, four-numbers, numbers-back, run, length-run}
+use Rattle.format.proofs.Cuts.{fit-starts, cut, endsFrom, Rise, rise-fine, starts-ends, length-startsFrom, cut-ends}
 use Rattle.format.proofs.Doubles.{measured, writeIf, z-back}
 use Rattle.format.proofs.Pairs.{length-pairs, pairs, pairs-read}
 use Rattle.format.proofs.Doubles
-use Rattle.format.proofs.Laid.{parts-words, boxDoubles, partsDoubles, parts-laid, covers-right, length-doubles}
+use Rattle.format.proofs.Laid.{parts-words, boxDoubles, partsDoubles, doubles-are, parts-laid, covers-right, length-doubles}
 use Rattle.rules.specs.Rules.{littleAt, wordsOf, pairsAt, ringsClosed}
-use Rattle.meaning.proofs.FiniteLaws.{finites-true}
+use Rattle.rules.proofs.FiniteLaws.{finites-true}
+use Rattle.rules.proofs.Ends.{endsAt, starts-at, of-rise, at-point, parts-closed}
+use Rattle.rules.proofs.FaultLaws.{Met}
 use Rattle.meaning.proofs.Decode.{hasM, m-back, m-formula, if-only, boxAt, partsCount, partsFrom, partsAt}
-use Rattle.meaning.proofs.Ends.{endsAt, starts-at, of-rise, rise-fine, at-point, parts-closed}
-use Rattle.meaning.proofs.Shaped.{Met}
 
 module _ (k : Kind) (l : List ℕ) (s : Parts) (o : PartsOf k s) (v : PartsWellFormed k s) (hp : Held (length (s .parts)))
     (hn : Held (length (flatten (s .parts)))) (w : wordsOf l ≡ shapeWords (parted s)) (st : Stands 12 (shapeBytes (parted s)) l) where
@@ -80,15 +81,11 @@ module _ (k : Kind) (l : List ℕ) (s : Parts) (o : PartsOf k s) (v : PartsWellF
       (numbers-back 4 52 starts l (fit-starts 0 (s .parts) (omega arith)) (front 52 (4 * p) (run 4 starts) (run 8 (partsDoubles s)) l length-starts at52))
 
   finite-all : AllFinite (partsDoubles s)
-  unfolding partsDoubles
-  finite-all =
-      finite-append (coordinates (flatten (s .parts))) (writeIf (measured n) (s .z) ++ writeIf (measured n) (s .m)) (v .points)
-      (finite-append (writeIf (measured n) (s .z)) (writeIf (measured n) (s .m)) (finite-measure n (s .z) (v .z)) (finite-measure n (s .m) (v .m)))
+  finite-all = finite-parts s k v
 
   -- the flags
   words : wordsOf l ≡ contentWords Lengths.parts (k .z) (there (s .m)) (littleAt 44 l) (littleAt 48 l)
-  unfolding shapeWords
-  words = rw (← o .has-z, parts-read, points-read) w
+  words = rw (← o .has-z, parts-read, points-read) (w ∙ words-parted s)
 
   has-m : hasM k l ≡ there (s .m)
   has-m = m-back (k .z) (littleAt 44 l) (littleAt 48 l) (wordsOf l) (k .m) (there (s .m)) (if-only (k .m) (s .m) (o .may-have-m)) words
@@ -115,29 +112,30 @@ module _ (k : Kind) (l : List ℕ) (s : Parts) (o : PartsOf k s) (v : PartsWellF
 
   -- the shape
   box-same : boxAt l ≡ s .box
-  unfolding numbers
   box-same =
+      let e = sym (four-numbers 8 12 l) ∙ box-read in
       λ i.
       record {
-        xmin = getD (box-read i) 0 0;
-        ymin = getD (box-read i) 1 0;
-        xmax = getD (box-read i) 2 0;
-        ymax = getD (box-read i) 3 0;
+        xmin = getD (e i) 0 0;
+        ymin = getD (e i) 1 0;
+        xmax = getD (e i) 2 0;
+        ymax = getD (e i) 3 0;
       }
 
   itself : partsFrom (s .box) (endsFrom 0 (s .parts)) n (there (s .z)) (there (s .m)) (partsDoubles s) ≡ s
-  unfolding partsFrom partsDoubles
+  unfolding partsFrom
   itself =
       let rz = covers-right n (s .z) (o .covers-z) in
       let rm = covers-right n (s .m) (o .covers-m) in
       let pts = pairs-read (flatten (s .parts)) (writeIf (measured n) (s .z) ++ writeIf (measured n) (s .m)) in
-      λ i.
+      rw (doubles-are s)
+      (λ i.
       record {
         box = s .box;
         parts = (ap (cut 0 (endsFrom 0 (s .parts))) pts ∙ cut-ends 0 (s .parts)) i;
         z = z-back (measured n) (flatten (s .parts)) (s .z) (s .m) rz rm i;
         m = Doubles.m-back (measured n) (flatten (s .parts)) (s .z) (s .m) rz rm i;
-      }
+      })
 
   pub parts-same : partsAt k l ≡ s
   parts-same = (λ i. partsFrom (box-same i) (ends-same i) (points-read i) (sym (o .has-z) i) (has-m i) (doubles-read i)) ∙ itself

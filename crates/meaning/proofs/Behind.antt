@@ -1,5 +1,5 @@
 -- Headers without fault stand in front of both files, and behind them the walk passes over well-formed records up to a place.
-use mathlib.Core.Path.{_≡_, sym, ap, ap₂, _∙_}
+use mathlib.Core.Path.{_≡_, sym, ap, ap₂, _∙_, subst}
 use mathlib.Core.List.{List}
 use Prim.Native.Nat.{ℕ, _*_}
 use native.Mathlib.Nat.{le-refl}
@@ -9,16 +9,16 @@ use lib.ListN.{length, drop}
 use Rattle.format.specs.Bytes.{field}
 use Rattle.format.specs.Encoding.{Box, headerBytes, endFrom}
 use Rattle.format.specs.Kinds.{kindAt}
-use Rattle.format.specs.WellFormed.{BoxFinite}
+use Rattle.format.specs.WellFormed.{AllFinite, BoxFinite}
 use Rattle.format.proofs.ByteLaws.{AllBytes, all-drop}
 use Rattle.format.proofs.KindLaws.{found-code}
 use Rattle.format.proofs.Runs.{numbers}
 use Rattle.format.proofs.Places.{Stands}
+use Rattle.format.proofs.HeaderLaws.{boxOf, box-of, tail, top-right, tail-right, joined}
 use Rattle.rules.specs.Meaning.{TakenKind}
 use Rattle.rules.specs.Rules.{Taken, bigAt, littleAt, walkFrom, none-yet}
-use Rattle.meaning.proofs.FiniteLaws.{finites-all}
-use Rattle.meaning.proofs.Header.{boxOf, tail, top-right, tail-right, joined}
-use Rattle.meaning.proofs.HeaderRules.{Headers}
+use Rattle.rules.proofs.FiniteLaws.{finites-all}
+use Rattle.rules.proofs.HeaderRules.{Headers}
 use Rattle.meaning.proofs.Skip.{plus, skips}
 use Rattle.meaning.proofs.Split.{Split, splits}
 use Rattle.meaning.proofs.Table.{Known, known}
@@ -37,8 +37,7 @@ module _ (shp shx : List ℕ) (b : AllBytes shp) (bx : AllBytes shx) (t : Taken)
   box = boxOf (numbers 8 8 36 shp)
 
   pub box-finite : BoxFinite box
-  unfolding numbers
-  box-finite = finites-all 8 36 shp b (omega (arith, h .shp-long)) (h .finite)
+  box-finite = subst AllFinite (sym (box-of 36 shp)) (finites-all 8 36 shp b (omega (arith, h .shp-long)) (h .finite))
 
   shp-tail : field 72 28 shp ≡ tail (t .kind .code) box
   shp-tail = rw code-found (tail-right shp b (h .shp-long) (h .version))

@@ -9,16 +9,19 @@ use lib.Dec.{eqb}
 use lib.ListN.{getD}
 use borrow.Author.Tests.{eq-eqb, ne-eqb, eqb-true}
 use Rattle.format.specs.declared.kinds.Kind.{Kind}
+use Rattle.format.specs.Encoding.{shapeBytes, shapeWords}
 use Rattle.format.specs.Lengths.{Form, nothing, onePoint, contentWords}
 use Rattle.format.specs.Lengths
-use Rattle.format.specs.Shapes.{BoxXY, Measure, Parts, Shape, null, point, parted, there, OnlyIf}
+use Rattle.format.specs.Shapes.{BoxXY, Measure, Parts, Shape, null, point, parted, there, partsIn, pointsIn, OfKind, OnlyIf}
+use Rattle.format.specs.WellFormed.{WellFormed}
 use Rattle.format.proofs.Runs.{numbers}
 use Rattle.format.proofs.Cuts.{cut}
 use Rattle.format.proofs.Doubles.{value, measured, count, zIn, mIn}
-use Rattle.format.proofs.Pairs.{pairs}
+use Rattle.format.proofs.Pairs.{nowhere, pairs}
 use Rattle.format.proofs.Laid.{parts-words}
-use Rattle.rules.specs.Rules.{littleAt, doubleAt, wordsOf, pairsAt}
-use Rattle.meaning.proofs.Ends.{endsAt, nowhere}
+use Rattle.format.proofs.Places.{Stands}
+use Rattle.rules.specs.Rules.{Taken, littleAt, doubleAt, wordsOf, partsOf, pointsOf, pairsAt}
+use Rattle.rules.proofs.Ends.{endsAt}
 
 -- ---- m
 
@@ -86,3 +89,12 @@ unfoldable pub shapeAt : Kind → Form → List ℕ → Shape
 shapeAt k nothing l = null
 shapeAt k onePoint l = pointFrom (k .z) (k .m) (numbers 8 (pointCount k) 12 l)
 shapeAt k Lengths.parts l = parted (partsAt k l)
+
+-- what is shown of the shape that is read from bytes that meet the rules
+pub record Shaped (t : Taken) (l : List ℕ) (s : Shape) : Type 0 where
+  pub of-kind : OfKind (t .kind) s
+  pub well : WellFormed (t .kind) s
+  pub words : wordsOf l ≡ shapeWords s
+  pub parts : partsOf (t .form) l ≡ partsIn s
+  pub points : pointsOf (t .form) l ≡ pointsIn s
+  pub stands : Stands 12 (shapeBytes s) l

@@ -9,13 +9,12 @@ use Rattle.format.specs.Encoding.{Box, shapeWords, content, twoBig, recordBytes
 use Rattle.format.specs.Shapes.{Shape, null, OfKind}
 use Rattle.format.proofs.Laid.{length-content, length-record}
 use Rattle.format.proofs.NumberLaws.{length-two}
-use Rattle.format.proofs.Places.{Stands, all-behind, front, back, field-stands, stands-within}
+use Rattle.format.proofs.Places.{Stands, all-behind, field-stands, stands-within}
+use Rattle.format.proofs.Records.{first-read, second-read, in-header, in-content, entriesBytes, wordOf, entry-placed, held-at}
 use Rattle.rules.specs.Meaning.{FileOf}
 use Rattle.meaning.specs.Consequences.{entryAt, offsetOf, extentOf, NamesRecord, HoldsShape}
 use Rattle.meaning.proofs.Always.{records-behind, entries-behind}
-use Rattle.meaning.proofs.EachRecord.{wordOf, record-placed, entry-placed, held-at, kind-at}
-use Rattle.meaning.proofs.Record.{first-read, second-read}
-use Rattle.meaning.proofs.Sizes.{entriesBytes}
+use Rattle.meaning.proofs.EachRecord.{record-placed, kind-at}
 
 module _ (kind : Kind) (box : Box) (ss : List Shape) (shp shx : List ℕ) (f : FileOf kind box ss shp shx) (i : ℕ) (inside : i < length ss) where
   abbrev s : Shape
@@ -50,8 +49,7 @@ module _ (kind : Kind) (box : Box) (ss : List Shape) (shp shx : List ℕ) (f : F
   extent = rw place (second-read w (shapeWords s) (100 + 8 * i) shx in-shx (omega (arith, held)))
 
   header : Stands (2 * w) (twoBig (1 + i) (shapeWords s)) shp
-  unfolding recordBytes
-  header = front (2 * w) 8 (twoBig (1 + i) (shapeWords s)) (content kind s) shp (length-two (1 + i) (shapeWords s)) in-shp
+  header = in-header kind (1 + i) s shp (2 * w) in-shp
 
   names : NamesRecord shp shx (1 + i)
   names =
@@ -65,11 +63,9 @@ module _ (kind : Kind) (box : Box) (ss : List Shape) (shp shx : List ℕ) (f : F
       }
 
   holds : HoldsShape kind shp shx (1 + i) s
-  unfolding recordBytes
   holds =
       rw (offset, extent)
-      (field-stands (2 * w + 8) (content kind s) shp (2 * shapeWords s) (length-content kind s of-kind)
-      (back (2 * w) 8 (twoBig (1 + i) (shapeWords s)) (content kind s) shp (length-two (1 + i) (shapeWords s)) in-shp))
+      (field-stands (2 * w + 8) (content kind s) shp (2 * shapeWords s) (length-content kind s of-kind) (in-content kind (1 + i) s shp (2 * w) in-shp))
 
 module _ (kind : Kind) (box : Box) (ss : List Shape) (shp shx : List ℕ) (f : FileOf kind box ss shp shx) (k : ℕ) (h : 1 ≤ k) (j : k ≤ length ss) where
   number : 1 + (k - 1) ≡ k

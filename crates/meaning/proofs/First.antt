@@ -1,43 +1,24 @@
 -- A no names the first fault: the headers', or that of the first record with one, or the first index entry left over.
-use mathlib.Core.Path.{_≡_, refl, sym, ap, ap₂, _∙_}
-use mathlib.Core.List.{List, [], _∷_}
+use mathlib.Core.Path.{_≡_, sym, ap, ap₂, _∙_}
+use mathlib.Core.List.{List}
 use mathlib.Core.Logic.{_⊎_, inl, inr, ⊎-elim}
 use mathlib.Core.Option.{Option}
-use Prim.Native.Nat.{ℕ, zero, suc, _+_, _*_, _≤_, _<_}
+use Prim.Native.Nat.{ℕ, _+_, _*_, _≤_, _<_}
 use native.Mathlib.Omega.{arith}
 use lib.ListN.{length, drop}
 use Rattle.format.specs.Encoding.{endFrom}
-use Rattle.format.specs.Said.{Said, fault}
+use Rattle.format.specs.Said.{fault}
 use Rattle.format.proofs.ByteLaws.{AllBytes}
-use Rattle.rules.specs.Rules.{Taken, Counts, takenIn, headersFault, recordFault, finish, orOn, walkFrom, none-yet, recordsVerdict, verdict}
+use Rattle.rules.specs.Rules.{Taken, Counts, takenIn, headersFault, recordFault, walkFrom, none-yet, recordsVerdict, verdict}
+use Rattle.rules.proofs.HeaderRules.{Headers, headers, headers-fine, named, name-taken}
+use Rattle.rules.proofs.VerdictLaws.{on-fault, fault-on, left-over, over-left, verdict-is, verdict-walk}
+use Rattle.rules.proofs.WalkLaws.{walk-end, walk-record}
 use Rattle.meaning.specs.Consequences.{Why, Stopped}
 use Rattle.meaning.proofs.Behind.{split, walked}
-use Rattle.meaning.proofs.HeaderRules.{Headers, headers, headers-fine, named, name-taken}
 use Rattle.meaning.proofs.Only.{no-byte}
 use Rattle.meaning.proofs.Skip.{plus, skips}
 use Rattle.meaning.proofs.Split.{Split}
 use Rattle.meaning.proofs.Table.{known}
-use Rattle.meaning.proofs.WalkLaws.{walk-end, walk-record}
-
--- ---- one step
-
-on-fault : (f k : ℕ) (v : Said Counts) (r n : ℕ) → orOn f k v ≡ fault r n → ((0 < f) × (f ≡ r) × (k ≡ n)) ⊎ ((f ≡ 0) × (v ≡ fault r n))
-on-fault zero k v r n e = inr (refl, e)
-on-fault (suc f) k v r n e = inl (omega arith, (cc), (cc))
-
-fault-on : (f k : ℕ) (v : Said Counts) → 0 < f → orOn f k v ≡ fault f k
-fault-on zero k v h = absurd (omega arith)
-fault-on (suc f) k v h = refl
-
-left-over : (x : List ℕ) (c : Counts) (r n : ℕ) → finish x c ≡ fault r n → (0 < length x) × (17 ≡ r) × (c .records + 1 ≡ n)
-unfolding finish
-left-over [] c r n e = absurd (let z : _≡_ {A = ℕ} 0 1 = cc in omega arith)
-left-over (a ∷ x) c r n e = (omega arith, (cc), (cc))
-
-over-left : (x : List ℕ) (c : Counts) → 0 < length x → finish x c ≡ fault 17 (c .records + 1)
-unfolding finish
-over-left [] c h = absurd (omega arith)
-over-left (a ∷ x) c h = refl
 
 -- ---- where a walk stops
 
@@ -86,29 +67,25 @@ module _ (shp shx : List ℕ) (b : AllBytes shp) (bx : AllBytes shx) where
       (ap (λ (o : Option Taken). recordsVerdict o shp shx) (sym (name-taken shp (q .0) (q .1 .kind))) ∙ e)
 
   pub no-record : (r k : ℕ) → 1 ≤ k → verdict shp shx ≡ fault r k → Stopped shp shx r k
-  unfolding verdict
-  no-record r k h e = ⊎-elim (λ y. absurd (omega (arith, y .2))) (λ y. records-no r k (y .0) (y .1)) (on-fault (headersFault shp shx) 0 _ r k e)
+  no-record r k h e = ⊎-elim (λ y. absurd (omega (arith, y .2))) (λ y. records-no r k (y .0) (y .1)) (on-fault (headersFault shp shx) 0 _ r k (sym (verdict-is shp shx) ∙ e))
 
   pub no-header : (r : ℕ) → verdict shp shx ≡ fault r 0 → (0 < r) × (headersFault shp shx ≡ r)
-  unfolding verdict
   no-header r e =
       ⊎-elim (λ y. (omega (arith, y .0, y .1), y .1)) (λ y. absurd (omega (arith, records-no r 0 (y .0) (y .1) .number)))
-      (on-fault (headersFault shp shx) 0 _ r 0 e)
+      (on-fault (headersFault shp shx) 0 _ r 0 (sym (verdict-is shp shx) ∙ e))
 
 -- ---- and to the verdict
 
 pub header-no : (shp shx : List ℕ) (r : ℕ) → 0 < r → headersFault shp shx ≡ r → verdict shp shx ≡ fault r 0
-unfolding verdict
-header-no shp shx r h e = rw e (fault-on r 0 _ h)
+header-no shp shx r h e = verdict-is shp shx ∙ rw e (fault-on r 0 _ h)
 
 pub record-no : (shp shx : List ℕ) (r k : ℕ) → Stopped shp shx r k → verdict shp shx ≡ fault r k
-unfolding verdict
 record-no shp shx r k s =
     let t = s .taken in
     let q = named shp t (s .named) in
     let c : Counts = plus none-yet (s .shapes) in
     let n : k ≡ c .records + 1 = omega (arith, s .number) in
-    rw (s .headers, s .named)
-    (ap₂ (λ (l x : List ℕ). walkFrom t l x 100 none-yet) (sym (s .file)) (sym (s .entries))
+    verdict-walk shp shx t (s .headers) (s .named)
+    ∙ (ap₂ (λ (l x : List ℕ). walkFrom t l x 100 none-yet) (sym (s .file)) (sym (s .entries))
     ∙ (skips t (known _ t (q .row) (q .form)) (s .shapes) 50 none-yet (s .rest) (s .left) (s .fine) (s .held)
     ∙ rw n (stops t (s .rest) (s .left) (2 * endFrom 50 (s .shapes)) c r (rw n at (s .why)))))

@@ -1,7 +1,7 @@
 -- The rules P13 to P16 and the shape that a record's bytes hold, for every taken kind.
-use mathlib.Core.Path.{_≡_, refl, ap, subst}
+use mathlib.Core.Path.{_≡_, refl, sym, ap, _∙_, subst}
 use mathlib.Core.Bool.{Bool, true, false}
-use mathlib.Core.List.{List}
+use mathlib.Core.List.{List, flatten}
 use mathlib.Core.Option.{some}
 use Prim.Native.Nat.{ℕ, _+_, _*_, _≤_}
 use native.Mathlib.Omega.{arith}
@@ -9,23 +9,31 @@ use lib.ListN.{length}
 use borrow.Author.Tests.{eq-eqb, eqb-true}
 use Rattle.format.specs.declared.kinds.Kind.{Kind}
 use Rattle.format.specs.Encoding.{shapeBytes, shapeWords, Held}
-use Rattle.format.specs.Lengths.{Form, nothing, onePoint, formOf, fixedWords, pointWords, contentWords}
+use Rattle.format.specs.Lengths.{Form, nothing, onePoint, formOf}
 use Rattle.format.specs.Lengths
 use Rattle.format.specs.Shapes.{Shape, null, point, parted, OfKind, partsIn, pointsIn}
 use Rattle.format.specs.WellFormed.{hasRings, WellFormed}
 use Rattle.format.proofs.ByteLaws.{AllBytes}
+use Rattle.format.proofs.Equations.{parts-null, parts-point, parts-parted, points-null, points-point, points-parted, shape-null}
+use Rattle.format.proofs.Laid.{nothing-words, null-words}
 use Rattle.format.proofs.Places.{Stands}
 use Rattle.rules.specs.Rules.{Taken, wordsOf, partsOf, pointsOf}
+use Rattle.rules.proofs.FaultLaws.{Met}
 use Rattle.meaning.proofs.BackParts.{parts-read, points-read, parts-same, parts-met}
-use Rattle.meaning.proofs.Decode.{shapeAt}
+use Rattle.meaning.proofs.Decode.{shapeAt, Shaped}
 use Rattle.meaning.proofs.Points.{same-twice, read-point, point-same, point-met}
 use Rattle.meaning.proofs.ReadParts.{read-parts}
-use Rattle.meaning.proofs.Shaped.{Met, Shaped}
 
 read-nothing : (k : Kind) (l : List ℕ) → formOf k ≡ some nothing → Met (record { kind = k; form = nothing }) l → Shaped (record { kind = k; form = nothing }) l null
-unfolding shapeWords shapeBytes partsIn pointsIn contentWords fixedWords pointWords
 read-nothing k l f met =
-    record { of-kind = f; well = tt; words = eqb-true (wordsOf l) 2 (same-twice _ (met .p13)); parts = refl; points = refl; stands = record { here = refl } }
+    record {
+      of-kind = f;
+      well = tt;
+      words = eqb-true _ _ (same-twice _ (met .p13)) ∙ (nothing-words (k .z) (k .m) ∙ sym null-words);
+      parts = sym parts-null;
+      points = sym points-null;
+      stands = rw shape-null (record { here = refl });
+    }
 
 -- what meets the rules holds the shape that is read from it
 pub read : (k : Kind) (form : Form) (l : List ℕ) → AllBytes l → formOf k ≡ some form → Met (record { kind = k; form = form }) l
@@ -52,16 +60,16 @@ no-rings k form r f n = go (hasRings k) refl
 module _ (k : Kind) (l : List ℕ) (rings : hasRings k ≡ true → formOf k ≡ some Lengths.parts) where
   pub back-as : (s : Shape) → OfKind k s → WellFormed k s → Held (partsIn s) → Held (pointsIn s) → wordsOf l ≡ shapeWords s → Stands 12 (shapeBytes s) l
       → (form : Form) → formOf k ≡ some form → Back (record { kind = k; form = form }) l s
-  unfolding shapeAt shapeWords partsIn pointsIn contentWords fixedWords pointWords
+  unfolding shapeAt
   back-as null o v hp hn w st form f =
       let e : nothing ≡ form = cc in
       let never : nothing ≡ Lengths.parts → ⊥ = λ p. let z : _≡_ {A = ℕ} 0 1 = cc in omega arith in
       subst (λ (x : Form). Back (record { kind = k; form = x }) l null) e
       (record {
         same = refl;
-        parts = refl;
-        points = refl;
-        met = λ within. record { within = within; p13 = rw (eq-eqb (wordsOf l) 2 w); p14 = refl; p15 = rw (no-rings k nothing rings o never); p16 = refl };
+        parts = sym parts-null;
+        points = sym points-null;
+        met = λ within. record { within = within; p13 = rw (nothing-words (k .z) (k .m), eq-eqb (wordsOf l) 2 (w ∙ null-words)); p14 = refl; p15 = rw (no-rings k nothing rings o never); p16 = refl };
       })
   back-as (point xy z m) o v hp hn w st form f =
       let q = o .form in
@@ -70,17 +78,19 @@ module _ (k : Kind) (l : List ℕ) (rings : hasRings k ≡ true → formOf k ≡
       subst (λ (x : Form). Back (record { kind = k; form = x }) l (point xy z m)) e
       (record {
         same = point-same k l xy z m o v w st;
-        parts = refl;
-        points = refl;
+        parts = sym (parts-point xy z m);
+        points = sym (points-point xy z m);
         met = point-met k l xy z m o v w st (no-rings k onePoint rings (o .form) never);
       })
   back-as (parted s) o v hp hn w st form f =
       let q = o .form in
       let e : Lengths.parts ≡ form = cc in
+      let p : Held (length (s .parts)) = rw (parts-parted s) at hp in
+      let n : Held (length (flatten (s .parts))) = rw (points-parted s) at hn in
       subst (λ (x : Form). Back (record { kind = k; form = x }) l (parted s)) e
       (record {
-        same = ap parted (parts-same k l s o v hp hn w st);
-        parts = parts-read k l s o v hp hn w st;
-        points = points-read k l s o v hp hn w st;
-        met = parts-met k l s o v hp hn w st;
+        same = ap parted (parts-same k l s o v p n w st);
+        parts = parts-read k l s o v p n w st ∙ sym (parts-parted s);
+        points = points-read k l s o v p n w st ∙ sym (points-parted s);
+        met = parts-met k l s o v p n w st;
       })

@@ -3,33 +3,27 @@ use mathlib.Core.Path.{_≡_, refl, sym, ap, _∙_}
 use mathlib.Core.List.{List, [], _∷_, _++_, append-nil}
 use mathlib.Core.Logic.{_⊎_, inl, inr}
 use mathlib.Core.Option.{Option}
-use Prim.Native.Nat.{ℕ, zero, suc, _+_, _*_, _<_}
+use Prim.Native.Nat.{ℕ, _+_, _*_, _<_}
 use native.Mathlib.Nat.{zero-add}
 use native.Mathlib.Omega.{arith}
 use lib.ListN.{length, drop, length-drop}
-use Rattle.format.specs.Encoding.{recordsFrom, endFrom, shpBytes, shxBytes}
-use Rattle.format.specs.Said.{Said, gives}
+use Rattle.format.specs.Encoding.{recordsFrom, endFrom}
+use Rattle.format.specs.Said.{gives}
 use Rattle.format.proofs.ByteLaws.{AllBytes}
+use Rattle.format.proofs.Equations.{shp-is, shx-is}
+use Rattle.format.proofs.Records.{entriesBytes, length-entries}
+use Rattle.format.proofs.HeaderLaws.{length-header}
 use Rattle.rules.specs.Meaning.{FileOf, Encoded}
-use Rattle.rules.specs.Rules.{Taken, Counts, bigAt, takenIn, headersFault, recordFault, finish, orOn, walkFrom, none-yet, recordsVerdict, verdict}
+use Rattle.rules.specs.Rules.{Taken, Counts, bigAt, takenIn, headersFault, recordFault, walkFrom, none-yet, recordsVerdict, verdict}
+use Rattle.rules.proofs.HeaderRules.{Headers, headers, name-taken}
+use Rattle.rules.proofs.VerdictLaws.{on-gives, finished, verdict-is}
+use Rattle.rules.proofs.WalkLaws.{walk-end, walk-record}
 use Rattle.meaning.proofs.Behind.{taken-kind, box, box-finite, shp-header, shx-header, split, walked}
-use Rattle.meaning.proofs.Header.{length-header}
-use Rattle.meaning.proofs.HeaderRules.{Headers, headers, name-taken}
-use Rattle.meaning.proofs.Sizes.{entriesBytes, length-records, length-entries}
+use Rattle.meaning.proofs.EachRecord.{length-records}
 use Rattle.meaning.proofs.Skip.{plus}
 use Rattle.meaning.proofs.Split.{Split}
-use Rattle.meaning.proofs.WalkLaws.{walk-end, walk-record}
 
 -- ---- where a walk ends
-
-on-gives : (r k : ℕ) (v : Said Counts) (c : Counts) → orOn r k v ≡ gives c → (r ≡ 0) × (v ≡ gives c)
-on-gives zero k v c e = (refl, e)
-on-gives (suc r) k v c e = absurd (let z : _≡_ {A = ℕ} 0 1 = cc in omega arith)
-
-finished : (x : List ℕ) (c d : Counts) → finish x c ≡ gives d → (x ≡ []) × (c ≡ d)
-unfolding finish
-finished [] c d e = (refl, (cc))
-finished (a ∷ x) c d e = absurd (let z : _≡_ {A = ℕ} 0 1 = cc in omega arith)
 
 pub no-byte : (l : List ℕ) → length l ≡ 0 → l ≡ []
 no-byte [] h = refl
@@ -61,7 +55,6 @@ module _ (shp shx : List ℕ) (b : AllBytes shp) (bx : AllBytes shx) (t : Taken)
   shx-words = omega (arith, h .shx-words, h .shx-long, ap length entries, length-drop 100 shx, length-entries 50 (sp .shapes))
 
   file : FileOf (t .kind) (box shp shx b bx t h) (sp .shapes) shp shx
-  unfolding shpBytes shxBytes
   file =
       let bits = box shp shx b bx t h in
       record {
@@ -70,8 +63,8 @@ module _ (shp shx : List ℕ) (b : AllBytes shp) (bx : AllBytes shx) (t : Taken)
         fine = sp .fine;
         is =
             record {
-              shp-is = rw (records, ← shp-words) (rw (length-header (bigAt 24 shp) (t .kind .code) bits) at (shp-header shp shx b bx t h .here));
-              shx-is = rw (entries, ← shx-words) (rw (length-header (bigAt 24 shx) (t .kind .code) bits) at (shx-header shp shx b bx t h .here));
+              shp-is = rw (shp-is (t .kind) bits (sp .shapes), records, ← shp-words) (rw (length-header (bigAt 24 shp) (t .kind .code) bits) at (shp-header shp shx b bx t h .here));
+              shx-is = rw (shx-is (t .kind) bits (sp .shapes), entries, ← shx-words) (rw (length-header (bigAt 24 shx) (t .kind .code) bits) at (shx-header shp shx b bx t h .here));
               shp-held = rw shp-words at (h .shp-held);
               shx-held = rw shx-words at (h .shx-held);
               held = sp .held;
@@ -98,9 +91,8 @@ walk-only shp shx b bx t h sp c e =
     encoded shp shx b bx t h sp (q .0) (q .1) c (q .2)
 
 pub only : (shp shx : List ℕ) → AllBytes shp → AllBytes shx → (c : Counts) → verdict shp shx ≡ gives c → Encoded shp shx c
-unfolding verdict
 only shp shx b bx c e =
-    let p = on-gives (headersFault shp shx) 0 (recordsVerdict (takenIn shp) shp shx) c e in
+    let p = on-gives (headersFault shp shx) 0 (recordsVerdict (takenIn shp) shp shx) c (sym (verdict-is shp shx) ∙ e) in
     let q = headers shp shx (p .0) in
     walk-only shp shx b bx (q .0) (q .1) (split shp shx b bx (q .0) (q .1)) c
     (ap (λ (o : Option Taken). recordsVerdict o shp shx) (sym (name-taken shp (q .0) (q .1 .kind))) ∙ p .1)

@@ -10,20 +10,20 @@ use borrow.Author.Tests.{eq-eqb, eqb-true}
 use Rattle.format.specs.declared.kinds.Kind.{Kind}
 use Rattle.format.specs.Encoding.{shapeBytes, shapeWords}
 use Rattle.format.specs.Lengths.{onePoint, formOf, contentWords}
-use Rattle.format.specs.Shapes.{Point, point, there, partsIn, pointsIn, PointOf}
+use Rattle.format.specs.Shapes.{Point, point, there, PointOf}
 use Rattle.format.specs.WellFormed.{hasRings, AllFinite, PointWellFormed}
 use Rattle.format.proofs.ByteLaws.{AllBytes}
 use Rattle.format.proofs.FiniteLaws.{finite-fit, finite-append, finite-front, finite-back, value-finite, finite-value}
+use Rattle.format.proofs.Equations.{parts-point, points-point, words-point}
 use Rattle.format.proofs.Places.{Stands}
 use Rattle.format.proofs.Runs.{numbers, numbers-back, run, run-stands, length-numbers}
 use Rattle.format.proofs.Doubles.{value, writeIf, there-read, zIn, mIn, all-written, length-all, z-back, m-back}
-use Rattle.format.proofs.Pairs.{pairs}
+use Rattle.format.proofs.Pairs.{nowhere, pairs, pairs-one}
 use Rattle.format.proofs.Laid.{point-words, pointDoubles, point-laid, any-right}
 use Rattle.rules.specs.Rules.{wordsOf}
-use Rattle.meaning.proofs.Decode.{pointCount, pointFrom, shapeAt}
-use Rattle.meaning.proofs.Ends.{nowhere}
-use Rattle.meaning.proofs.FiniteLaws.{finites-all, finites-true}
-use Rattle.meaning.proofs.Shaped.{Met, Shaped}
+use Rattle.rules.proofs.FiniteLaws.{finites-all, finites-true}
+use Rattle.rules.proofs.FaultLaws.{Met}
+use Rattle.meaning.proofs.Decode.{pointCount, pointFrom, shapeAt, Shaped}
 
 pub same-twice : (a : Bool) → (a || a) ≡ true → a ≡ true
 same-twice true e = refl
@@ -52,8 +52,7 @@ module _ (k : Kind) (l : List ℕ) (b : AllBytes l) (f : formOf k ≡ some onePo
   room = omega (arith, words-are, met .within)
 
   written : pointDoubles xy z m ≡ ds
-  unfolding pairs
-  written = all-written value 1 (k .z) (k .m) ds (length-numbers 8 (pointCount k) 12 l)
+  written = rw (pairs-one ds) (rw (pairs-one ds) at (all-written value 1 (k .z) (k .m) ds (length-numbers 8 (pointCount k) 12 l)))
 
   all-finite : AllFinite (pointDoubles xy z m)
   all-finite =
@@ -67,7 +66,7 @@ module _ (k : Kind) (l : List ℕ) (b : AllBytes l) (f : formOf k ≡ some onePo
   has-m = there-read value (k .m) _
 
   pub read-point : Shaped (record { kind = k; form = onePoint }) l (shapeAt k onePoint l)
-  unfolding shapeAt pointFrom shapeWords partsIn pointsIn
+  unfolding shapeAt pointFrom
   read-point =
       record {
         of-kind = record { form = f; has-z = has-z; has-m = has-m };
@@ -78,9 +77,9 @@ module _ (k : Kind) (l : List ℕ) (b : AllBytes l) (f : formOf k ≡ some onePo
               z-finite = value-finite z (finite-front (writeIf value z) (writeIf value m) (all-finite .1 .1));
               m-finite = value-finite m (finite-back (writeIf value z) (writeIf value m) (all-finite .1 .1));
             };
-        words = rw (has-z, has-m) words;
-        parts = refl;
-        points = refl;
+        words = rw (words-point xy z m, has-z, has-m) words;
+        parts = sym (parts-point xy z m);
+        points = sym (points-point xy z m);
         stands = subst (λ (q : List ℕ). Stands 12 q l) (sym (point-laid xy z m ∙ ap (run 8) written)) (run-stands 8 (pointCount k) 12 l b room);
       }
 
@@ -90,8 +89,7 @@ module _ (k : Kind) (l : List ℕ) (xy : Point) (z m : Option ℕ) (o : PointOf 
   finite-all = (v .x-finite, (v .y-finite, finite-append (writeIf value z) (writeIf value m) (finite-value z (v .z-finite)) (finite-value m (v .m-finite))))
 
   words-back : wordsOf l ≡ contentWords onePoint (k .z) (k .m) 0 1
-  unfolding shapeWords
-  words-back = rw (← o .has-z, ← o .has-m) w
+  words-back = rw (← o .has-z, ← o .has-m) (w ∙ words-point xy z m)
 
   count-read : pointCount k ≡ length (pointDoubles xy z m)
   count-read = rw (← o .has-z, ← o .has-m) (sym (length-all value (xy ∷ []) z m (any-right z) (any-right m)))
@@ -100,8 +98,8 @@ module _ (k : Kind) (l : List ℕ) (xy : Point) (z m : Option ℕ) (o : PointOf 
   doubles-read = rw count-read (numbers-back 8 12 (pointDoubles xy z m) l (finite-fit (pointDoubles xy z m) finite-all) (rw (point-laid xy z m) at st))
 
   itself : pointFrom (there z) (there m) (pointDoubles xy z m) ≡ point xy z m
-  unfolding pointFrom pairs
-  itself = λ i. point xy (z-back value (xy ∷ []) z m (any-right z) (any-right m) i) (m-back value (xy ∷ []) z m (any-right z) (any-right m) i)
+  unfolding pointFrom
+  itself = rw (pairs-one (pointDoubles xy z m)) (λ i. point xy (z-back value (xy ∷ []) z m (any-right z) (any-right m) i) (m-back value (xy ∷ []) z m (any-right z) (any-right m) i))
 
   pub point-same : shapeAt k onePoint l ≡ point xy z m
   unfolding shapeAt

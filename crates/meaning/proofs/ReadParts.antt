@@ -1,5 +1,5 @@
 -- A record with parts that meets the rules holds the shape that is read from it.
-use mathlib.Core.Path.{_≡_, sym, ap, ap₂, _∙_}
+use mathlib.Core.Path.{_≡_, sym, ap, ap₂, _∙_, subst}
 use mathlib.Core.Bool.{true, false, _&&_, _||_}
 use mathlib.Core.List.{List, [], _∷_, _++_, flatten, append-cancel-right}
 use mathlib.Core.Option.{some}
@@ -13,22 +13,23 @@ use Rattle.format.specs.Bytes.{leBytes}
 use Rattle.format.specs.Encoding.{startsFrom, shapeBytes, shapeWords}
 use Rattle.format.specs.Lengths.{formOf, contentWords}
 use Rattle.format.specs.Lengths
-use Rattle.format.specs.Shapes.{Point, Parts, parted, there, partsIn, pointsIn, PartsOf}
-use Rattle.format.specs.WellFormed.{leastPoints, AllFinite, PartsFine, PartsWellFormed, coordinates}
+use Rattle.format.specs.Shapes.{Point, Parts, parted, there, PartsOf}
+use Rattle.format.specs.WellFormed.{leastPoints, AllFinite, PartsFine, PartsWellFormed}
 use Rattle.format.proofs.ByteLaws.{AllBytes, length-leBytes}
-use Rattle.format.proofs.FiniteLaws.{finite-front, finite-back, measure-finite}
+use Rattle.format.proofs.Equations.{parts-parted, points-parted, words-parted}
+use Rattle.format.proofs.FiniteLaws.{parts-finite}
 use Rattle.format.proofs.OrderLaws.{both-true}
 use Rattle.format.proofs.Places.{Stands, join, le-stands}
-use Rattle.format.proofs.Runs.{numbers, run, run-stands, length-numbers, length-run}
+use Rattle.format.proofs.Runs.{numbers, four-numbers, run, run-stands, length-numbers, length-run}
 use Rattle.format.proofs.Cuts.{Rise, starts-ends, flatten-cut, ends-cut, length-cut}
-use Rattle.format.proofs.Doubles.{measured, writeIf, there-read, z-right, m-right, all, all-written}
+use Rattle.format.proofs.Doubles.{measured, there-read, z-right, m-right, all, all-written}
 use Rattle.format.proofs.Pairs.{pairs, length-pairs}
-use Rattle.format.proofs.Laid.{parts-words, partsDoubles, parts-laid, right-covers}
+use Rattle.format.proofs.Laid.{parts-words, boxDoubles, partsDoubles, doubles-are, parts-laid, right-covers}
 use Rattle.rules.specs.Rules.{littleAt, wordsOf, pairsAt, held, finites, partsLong}
-use Rattle.meaning.proofs.FiniteLaws.{finites-all}
-use Rattle.meaning.proofs.Decode.{hasM, m-words, partsCount, partsFrom, partsAt, shapeAt, only-if}
-use Rattle.meaning.proofs.Ends.{endsAt, length-endsAt, starts-at, rise-of, at-point, parts-fine}
-use Rattle.meaning.proofs.Shaped.{Met, Shaped}
+use Rattle.rules.proofs.FiniteLaws.{finites-all}
+use Rattle.rules.proofs.Ends.{endsAt, length-endsAt, starts-at, rise-of, at-point, parts-fine}
+use Rattle.rules.proofs.FaultLaws.{Met}
+use Rattle.meaning.proofs.Decode.{hasM, m-words, partsCount, partsFrom, partsAt, shapeAt, only-if, Shaped}
 
 module _ (k : Kind) (l : List ℕ) (b : AllBytes l) (f : formOf k ≡ some Lengths.parts) (met : Met (record { kind = k; form = Lengths.parts }) l) where
   abbrev p : ℕ
@@ -93,8 +94,8 @@ module _ (k : Kind) (l : List ℕ) (b : AllBytes l) (f : formOf k ≡ some Lengt
       ∙ sym (starts-at p 52 n l some-part))))
 
   doubles : partsDoubles s ≡ ds
-  unfolding partsFrom partsDoubles
-  doubles = ap₂ (λ (q : ℕ) (r : List Point). all (measured q) r (s .z) (s .m)) length-flat flat ∙ all-written (measured n) n (k .z) (hasM k l) ds length-ds
+  unfolding partsFrom
+  doubles = doubles-are s ∙ (ap₂ (λ (q : ℕ) (r : List Point). all (measured q) r (s .z) (s .m)) length-flat flat ∙ all-written (measured n) n (k .z) (hasM k l) ds length-ds)
 
   room : 52 + 4 * p + 8 * partsCount k l ≤ length l
   room = omega (arith, met .within, words-are)
@@ -105,11 +106,16 @@ module _ (k : Kind) (l : List ℕ) (b : AllBytes l) (f : formOf k ≡ some Lengt
   length-at52 : length at52 ≡ 4 * p
   length-at52 = length-run 4 (numbers 4 p 52 l) ∙ ap (λ (i : ℕ). 4 * i) (length-numbers 4 p 52 l)
 
+  box-are : boxDoubles (s .box) ≡ numbers 8 4 12 l
+  unfolding partsFrom
+  box-are = sym (four-numbers 8 12 l)
+
   stands : Stands 12 (shapeBytes (parted s)) l
-  unfolding partsFrom numbers
+  unfolding partsFrom
   stands =
       rw (parts-laid s, length-parts, length-flat, starts, doubles)
-      (join 12 32 (run 8 (numbers 8 4 12 l)) (leBytes 4 p ++ (leBytes 4 n ++ (at52 ++ run 8 ds))) l (length-run 8 (numbers 8 4 12 l)) (run-stands 8 4 12 l b (omega (arith, room)))
+      (join 12 32 (run 8 (boxDoubles (s .box))) (leBytes 4 p ++ (leBytes 4 n ++ (at52 ++ run 8 ds))) l (length-run 8 (boxDoubles (s .box)))
+      (subst (λ (q : List ℕ). Stands 12 (run 8 q) l) (sym box-are) (run-stands 8 4 12 l b (omega (arith, room))))
       (join 44 4 (leBytes 4 p) (leBytes 4 n ++ (at52 ++ run 8 ds)) l (length-leBytes 4 p) (le-stands 4 44 l b (omega (arith, room)))
       (join 48 4 (leBytes 4 n) (at52 ++ run 8 ds) l (length-leBytes 4 n) (le-stands 4 48 l b (omega (arith, room)))
       (join 52 (4 * p) at52 (run 8 ds) l length-at52 (run-stands 4 p 52 l b (omega (arith, room)))
@@ -134,17 +140,15 @@ module _ (k : Kind) (l : List ℕ) (b : AllBytes l) (f : formOf k ≡ some Lengt
       (λ q. rw q at (met .p15))
 
   well : PartsWellFormed k s
-  unfolding partsFrom partsDoubles numbers
   well =
-      let q = length (flatten (s .parts)) in
-      let zm = finite-back (coordinates (flatten (s .parts))) (writeIf (measured q) (s .z) ++ writeIf (measured q) (s .m)) all-finite in
+      let q = parts-finite s all-finite in
       record {
         some-part = rw length-parts some-part;
         each-part = fine;
-        box = finites-all 4 12 l b (omega (arith, room)) (test16 .0);
-        points = finite-front (coordinates (flatten (s .parts))) (writeIf (measured q) (s .z) ++ writeIf (measured q) (s .m)) all-finite;
-        z = measure-finite q (s .z) (finite-front (writeIf (measured q) (s .z)) (writeIf (measured q) (s .m)) zm);
-        m = measure-finite q (s .m) (finite-back (writeIf (measured q) (s .z)) (writeIf (measured q) (s .m)) zm);
+        box = subst AllFinite (sym box-are) (finites-all 4 12 l b (omega (arith, room)) (test16 .0));
+        points = q .0;
+        z = q .1;
+        m = q .2;
       }
 
   has-z : there (s .z) ≡ k .z
@@ -156,8 +160,7 @@ module _ (k : Kind) (l : List ℕ) (b : AllBytes l) (f : formOf k ≡ some Lengt
   has-m = there-read (measured n) (hasM k l) _
 
   words-shape : wordsOf l ≡ shapeWords (parted s)
-  unfolding shapeWords
-  words-shape = rw (has-z, has-m, length-parts, length-flat) words
+  words-shape = rw (words-parted s, has-z, has-m, length-parts, length-flat) words
 
   of-kind : PartsOf k s
   unfolding partsFrom
@@ -171,13 +174,13 @@ module _ (k : Kind) (l : List ℕ) (b : AllBytes l) (f : formOf k ≡ some Lengt
       }
 
   pub read-parts : Shaped (record { kind = k; form = Lengths.parts }) l (shapeAt k Lengths.parts l)
-  unfolding shapeAt partsFrom shapeWords partsIn pointsIn
+  unfolding shapeAt
   read-parts =
       record {
         of-kind = of-kind;
         well = well;
         words = words-shape;
-        parts = sym length-parts;
-        points = sym length-flat;
+        parts = sym (parts-parted s ∙ length-parts);
+        points = sym (points-parted s ∙ length-flat);
         stands = stands;
       }

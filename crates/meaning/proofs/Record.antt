@@ -1,39 +1,23 @@
 -- A record and its entry: without fault they are the bytes of the shape that is read there, and the bytes of a well-formed shape have none.
 use mathlib.Core.Path.{_≡_, sym, ap, _∙_}
-use mathlib.Core.List.{List, _++_}
-use Prim.Native.Nat.{ℕ, _+_, _*_, _^_, _≤_, _<_}
+use mathlib.Core.List.{List}
+use Prim.Native.Nat.{ℕ, _+_, _*_, _≤_}
 use native.Mathlib.Omega.{arith}
 use lib.ListN.{length}
 use Rattle.format.specs.declared.kinds.Kind.{Kind}
-use Rattle.format.specs.Encoding.{shapeBytes, shapeWords, content, twoBig, recordBytes, Held}
-use Rattle.format.specs.Numbers.{big, little}
+use Rattle.format.specs.Encoding.{shapeWords, twoBig, recordBytes, Held}
 use Rattle.format.specs.Shapes.{Shape, OfKind, partsIn, pointsIn}
 use Rattle.format.specs.WellFormed.{WellFormed}
 use Rattle.format.proofs.ByteLaws.{AllBytes}
-use Rattle.format.proofs.NumberLaws.{length-big, length-little, length-two}
+use Rattle.format.proofs.NumberLaws.{length-two}
 use Rattle.format.proofs.Laid.{length-shape, length-record}
-use Rattle.format.proofs.Places.{Stands, join, front, back, le-back, be-back, le-stands, be-stands, stands-within}
-use Rattle.rules.specs.Rules.{Taken, bigAt, littleAt, wordsOf}
-use Rattle.meaning.proofs.Decode.{shapeAt}
-use Rattle.meaning.proofs.FaultLaws.{Fine}
+use Rattle.format.proofs.Places.{Stands, stands-within}
+use Rattle.format.proofs.Records.{first-read, second-read, two-stands, record-laid, in-header, in-shape, code-read}
+use Rattle.rules.specs.Rules.{Taken, bigAt, wordsOf}
+use Rattle.rules.proofs.FaultLaws.{Fine}
+use Rattle.meaning.proofs.Decode.{shapeAt, Shaped}
 use Rattle.meaning.proofs.Forms.{read, Back, back-as}
 use Rattle.meaning.proofs.Table.{Known}
-use Rattle.meaning.proofs.Shaped.{Shaped}
-
--- ---- two big numbers
-
-module _ (a b at : ℕ) (l : List ℕ) (st : Stands at (twoBig a b) l) where
-  pub first-read : a < 2 ^ 32 → bigAt at l ≡ a
-  unfolding twoBig big
-  first-read h = be-back 4 a at l h (front at 4 (big a) (big b) l (length-big a) st)
-
-  pub second-read : b < 2 ^ 32 → bigAt (at + 4) l ≡ b
-  unfolding twoBig big
-  second-read h = be-back 4 b (at + 4) l h (back at 4 (big a) (big b) l (length-big a) st)
-
-two-stands : (l : List ℕ) → AllBytes l → 8 ≤ length l → Stands 0 (twoBig (bigAt 0 l) (bigAt 4 l)) l
-unfolding twoBig big
-two-stands l b h = join 0 4 (big (bigAt 0 l)) (big (bigAt 4 l)) l (length-big _) (be-stands 4 0 l b (omega arith)) (be-stands 4 4 l b (omega arith))
 
 -- a well-formed shape of the kind, as record n at word w, with its numbers held
 pub record Encodable (k : Kind) (n w : ℕ) (s : Shape) : Type 0 where
@@ -68,14 +52,8 @@ module _ (t : Taken) (known : Known t) (l x : List ℕ) (w n : ℕ) where
         }
 
     pub record-stands : Stands 0 (recordBytes (t .kind) n shape) l
-    unfolding recordBytes content little
     record-stands =
-        let e : bigAt 0 l ≡ n = f .number in
-        let q : bigAt 4 l ≡ shapeWords shape = shaped .words in
-        let c : littleAt 8 l ≡ t .kind .code = f .code in
-        let kind : Stands 8 (little (t .kind .code)) l = rw c at (le-stands 4 8 l b (omega (arith, f .words-two, f .met .within))) in
-        join 0 8 (twoBig n (shapeWords shape)) (content (t .kind) shape) l (length-two _ _) (rw (e, q) at (two-stands l b (f .header)))
-        (join 8 4 (little (t .kind .code)) (shapeBytes shape) l (length-little _) kind (shaped .stands))
+        record-laid (t .kind) n shape l b (omega (arith, f .words-two, f .met .within)) (f .number) (shaped .words) (f .code) (shaped .stands)
 
     pub entry-stands : Stands 0 (twoBig w (shapeWords shape)) x
     entry-stands =
@@ -87,21 +65,13 @@ module _ (t : Taken) (known : Known t) (l x : List ℕ) (w n : ℕ) where
 
   module _ (s : Shape) (g : Encodable (t .kind) n w s) (st : Stands 0 (recordBytes (t .kind) n s) l) (sx : Stands 0 (twoBig w (shapeWords s)) x) where
     at0 : Stands 0 (twoBig n (shapeWords s)) l
-    unfolding recordBytes
-    at0 = front 0 8 (twoBig n (shapeWords s)) (content (t .kind) s) l (length-two _ _) st
-
-    at8 : Stands 8 (little (t .kind .code) ++ shapeBytes s) l
-    unfolding recordBytes content
-    at8 = back 0 8 (twoBig n (shapeWords s)) (content (t .kind) s) l (length-two _ _) st
-
-    at12 : Stands 12 (shapeBytes s) l
-    at12 = back 8 4 (little (t .kind .code)) (shapeBytes s) l (length-little _) at8
+    at0 = in-header (t .kind) n s l 0 st
 
     pub words-read : wordsOf l ≡ shapeWords s
     words-read = second-read n (shapeWords s) 0 l at0 (omega (arith, g .words-held))
 
     pub read-back : Back t l s
-    read-back = back-as (t .kind) l (known .rings) s (g .of-kind) (g .well) (g .parts-held) (g .points-held) words-read at12 (t .form) (known .form)
+    read-back = back-as (t .kind) l (known .rings) s (g .of-kind) (g .well) (g .parts-held) (g .points-held) words-read (in-shape (t .kind) n s l 0 st) (t .form) (known .form)
 
     within : 8 + 2 * shapeWords s ≤ length l
     within =
@@ -116,10 +86,6 @@ module _ (t : Taken) (known : Known t) (l x : List ℕ) (w n : ℕ) where
     offset-read : bigAt 0 x ≡ w
     offset-read = first-read w (shapeWords s) 0 x sx (omega (arith, g .word-held))
 
-    code-read : littleAt 8 l ≡ t .kind .code
-    unfolding little
-    code-read = le-back 4 (t .kind .code) 8 l (omega (arith, known .small)) (front 8 4 (little (t .kind .code)) (shapeBytes s) l (length-little _) at8)
-
     pub fine-record : Fine t l x (2 * w) n
     fine-record =
         record {
@@ -132,7 +98,7 @@ module _ (t : Taken) (known : Known t) (l x : List ℕ) (w n : ℕ) where
           offset-held = rw offset-read (g .word-held);
           offset = ap (λ (i : ℕ). 2 * i) offset-read;
           extent = second-read w (shapeWords s) 0 x sx (omega (arith, g .words-held)) ∙ sym words-read;
-          code = code-read;
+          code = code-read (t .kind) n s l 0 st (omega (arith, known .small));
           parts-held = rw (read-back .parts) (g .parts-held);
           points-held = rw (read-back .points) (g .points-held);
           met = read-back .met (omega (arith, words-read, within));

@@ -1,25 +1,26 @@
 -- The walk passes over the records of well-formed shapes, and counts them; and no two lists of such shapes have the same records.
 use mathlib.Core.Path.{_≡_, refl, sym, ap, ap₂, _∙_}
-use mathlib.Core.List.{List, [], _∷_, _++_, flatten, append-assoc}
+use mathlib.Core.List.{List, [], _∷_, _++_, append-assoc}
 use Prim.Native.Nat.{ℕ, suc, _+_, _*_, _<_}
 use native.Mathlib.Nat.{add-zero}
 use native.Mathlib.Omega.{arith}
 use lib.ListN.{length, drop, length-append}
 use lib.Seq.{drop-at}
-use Rattle.format.specs.Encoding.{shapeWords, twoBig, recordBytes, recordsFrom, entriesFrom, endFrom, HeldFrom}
+use Rattle.format.specs.Encoding.{shapeWords, twoBig, recordBytes, recordsFrom, endFrom, HeldFrom}
 use Rattle.format.specs.Shapes.{Shape, OfKind, partsIn, pointsIn}
+use Rattle.format.proofs.Equations.{records-nil, records-cons, end-nil, end-cons}
 use Rattle.format.proofs.Laid.{length-record}
 use Rattle.format.proofs.NumberLaws.{length-two}
 use Rattle.format.proofs.Places.{in-front}
+use Rattle.format.proofs.Records.{entriesBytes, entriesBytes-nil, entriesBytes-cons}
 use Rattle.rules.specs.Meaning.{AllWellFormed, allParts, allPoints}
 use Rattle.rules.specs.Rules.{Taken, Counts, wordsOf, size, recordFault, orOn, walkFrom}
+use Rattle.rules.proofs.FaultLaws.{Fine, faultless}
+use Rattle.rules.proofs.WalkLaws.{next, walk-record}
 use Rattle.meaning.proofs.Decode.{shapeAt}
-use Rattle.meaning.proofs.FaultLaws.{Fine, faultless}
 use Rattle.meaning.proofs.Forms.{Back}
 use Rattle.meaning.proofs.Record.{Encodable, words-read, read-back, fine-record}
-use Rattle.meaning.proofs.Sizes.{entriesBytes}
 use Rattle.meaning.proofs.Table.{Known}
-use Rattle.meaning.proofs.WalkLaws.{next, walk-record}
 
 -- the counts behind one shape, and behind all of them
 abbrev and-one : Counts → Shape → Counts
@@ -79,32 +80,37 @@ module _ (t : Taken) (known : Known t) where
   pub skips : (ss : List Shape) (w : ℕ) (c : Counts) (rest left : List ℕ) → AllWellFormed (t .kind) ss → HeldFrom (c .records + 1) w ss
       → walkFrom t (recordsFrom (t .kind) (c .records + 1) ss ++ rest) (entriesBytes w ss ++ left) (2 * w) c
       ≡ walkFrom t rest left (2 * endFrom w ss) (plus c ss)
-  unfolding recordsFrom entriesFrom endFrom flatten
-  skips [] w c rest left f h = simp add-zero
+  skips [] w c rest left f h = rw (records-nil (t .kind) (c .records + 1), entriesBytes-nil w, end-nil w) (simp add-zero)
   skips (s ∷ ss) w c rest left f h =
       let n = c .records + 1 in
       let v = w + (4 + shapeWords s) in
       let r : List ℕ = recordsFrom (t .kind) (n + 1) ss in
       let y : List ℕ = entriesBytes v ss in
-      ap₂ (λ (a b : List ℕ). walkFrom t a b (2 * w) c) (append-assoc (recordBytes (t .kind) n s) r rest) (append-assoc (twoBig w (shapeWords s)) y left)
+      rw (records-cons (t .kind) n s ss, entriesBytes-cons w s ss, end-cons w s ss)
+      (ap₂ (λ (a b : List ℕ). walkFrom t a b (2 * w) c) (append-assoc (recordBytes (t .kind) n s) r rest) (append-assoc (twoBig w (shapeWords s)) y left)
       ∙ (skip s n w (first-of s ss n w f h) (r ++ rest) (y ++ left) c refl
       ∙ (skips ss v (and-one c s) rest left (f .2) (h .5)
-      ∙ ap (walkFrom t rest left (2 * endFrom v ss)) (one-plus c s ss)))
+      ∙ ap (walkFrom t rest left (2 * endFrom v ss)) (one-plus c s ss))))
 
   -- ---- no two lists
 
+  none-some : (s : Shape) (ss : List Shape) (n : ℕ) → OfKind (t .kind) s → recordsFrom (t .kind) n [] ≡ recordsFrom (t .kind) n (s ∷ ss) → ⊥
+  none-some s ss n o e =
+      let q = sym (records-nil (t .kind) n) ∙ (e ∙ records-cons (t .kind) n s ss) in
+      omega (arith, ap length q, some-bytes s n (recordsFrom (t .kind) (n + 1) ss) o)
+
   pub one-list : (ss ss′ : List Shape) (n w w′ : ℕ) → AllWellFormed (t .kind) ss → AllWellFormed (t .kind) ss′ → HeldFrom n w ss → HeldFrom n w′ ss′
       → recordsFrom (t .kind) n ss ≡ recordsFrom (t .kind) n ss′ → ss ≡ ss′
-  unfolding recordsFrom
   one-list [] [] n w w′ f f′ h h′ e = refl
-  one-list [] (s ∷ ss) n w w′ f f′ h h′ e = absurd (omega (arith, ap length e, some-bytes s n (recordsFrom (t .kind) (n + 1) ss) (f′ .0)))
-  one-list (s ∷ ss) [] n w w′ f f′ h h′ e = absurd (omega (arith, ap length e, some-bytes s n (recordsFrom (t .kind) (n + 1) ss) (f .0)))
+  one-list [] (s ∷ ss) n w w′ f f′ h h′ e = absurd (none-some s ss n (f′ .0) e)
+  one-list (s ∷ ss) [] n w w′ f f′ h h′ e = absurd (none-some s ss n (f .0) (sym e))
   one-list (s ∷ ss) (s′ ∷ ss′) n w w′ f f′ h h′ e =
       let r = recordsFrom (t .kind) (n + 1) ss in
       let r′ = recordsFrom (t .kind) (n + 1) ss′ in
       let g = first-of s ss n w f h in
       let g′ = first-of s′ ss′ n w′ f′ h′ in
-      let head : s ≡ s′ = sym (backed s n w g r [] .same) ∙ (ap (shapeAt (t .kind) (t .form)) e ∙ backed s′ n w′ g′ r′ [] .same) in
-      let tail : r ≡ r′ = sym (behind s n w g r []) ∙ (ap (λ (q : List ℕ). drop (size q) q) e ∙ behind s′ n w′ g′ r′ []) in
+      let q = sym (records-cons (t .kind) n s ss) ∙ (e ∙ records-cons (t .kind) n s′ ss′) in
+      let head : s ≡ s′ = sym (backed s n w g r [] .same) ∙ (ap (shapeAt (t .kind) (t .form)) q ∙ backed s′ n w′ g′ r′ [] .same) in
+      let tail : r ≡ r′ = sym (behind s n w g r []) ∙ (ap (λ (l : List ℕ). drop (size l) l) q ∙ behind s′ n w′ g′ r′ []) in
       let more : ss ≡ ss′ = one-list ss ss′ (n + 1) (w + (4 + shapeWords s)) (w′ + (4 + shapeWords s′)) (f .2) (f′ .2) (h .5) (h′ .5) tail in
       λ i. head i ∷ more i

@@ -1,21 +1,22 @@
 -- Any bytes are well-formed records up to a place, and there the .shp ends or a record has a fault.
 use mathlib.Core.Path.{_≡_, refl, sym, _∙_}
-use mathlib.Core.List.{List, [], _∷_, _++_, flatten, append-assoc}
+use mathlib.Core.List.{List, [], _∷_, _++_, append-assoc}
 use mathlib.Core.Logic.{_⊎_, inl, inr}
 use Prim.Native.Nat.{ℕ, zero, suc, _+_, _*_, _≤_, _<_}
 use native.Mathlib.Nat.{add-zero, zero-add}
 use native.Mathlib.Omega.{arith}
 use lib.ListN.{length, drop, length-drop}
-use Rattle.format.specs.Encoding.{shapeWords, twoBig, recordBytes, recordsFrom, entriesFrom, endFrom, HeldFrom}
+use Rattle.format.specs.Encoding.{shapeWords, twoBig, recordBytes, recordsFrom, endFrom, HeldFrom}
 use Rattle.format.specs.Shapes.{Shape}
 use Rattle.format.proofs.ByteLaws.{AllBytes, all-drop}
+use Rattle.format.proofs.Equations.{records-nil, records-cons, end-nil, end-cons}
 use Rattle.format.proofs.Laid.{length-record}
 use Rattle.format.proofs.NumberLaws.{length-two}
+use Rattle.format.proofs.Records.{entriesBytes, entriesBytes-nil, entriesBytes-cons}
 use Rattle.rules.specs.Meaning.{AllWellFormed}
 use Rattle.rules.specs.Rules.{Taken, wordsOf, size, recordFault}
-use Rattle.meaning.proofs.FaultLaws.{Fine, fine}
+use Rattle.rules.proofs.FaultLaws.{Fine, fine}
 use Rattle.meaning.proofs.Record.{encodable, shape, shaped, record-stands, entry-stands}
-use Rattle.meaning.proofs.Sizes.{entriesBytes}
 use Rattle.meaning.proofs.Table.{Known}
 
 -- l has the records from number n and word w on, and x has their entries
@@ -30,14 +31,21 @@ pub record Split (t : Taken) (l x : List ℕ) (w n : ℕ) : Type 0 where
   pub stop : (length rest ≡ 0) ⊎ ((0 < length rest) × (recordFault t rest left (2 * endFrom w shapes) (n + length shapes) ≡ 0 → ⊥))
 
 at-once : (t : Taken) (l x : List ℕ) (w n : ℕ) → (length l ≡ 0) ⊎ ((0 < length l) × (recordFault t l x (2 * w) n ≡ 0 → ⊥)) → Split t l x w n
-unfolding recordsFrom entriesFrom endFrom flatten
 at-once t l x w n h =
-    record { shapes = []; rest = l; left = x; fine = tt; held = tt; file = refl; entries = refl; stop = rw add-zero h }
+    record {
+      shapes = [];
+      rest = l;
+      left = x;
+      fine = tt;
+      held = tt;
+      file = rw (records-nil (t .kind) n);
+      entries = rw (entriesBytes-nil w);
+      stop = rw (end-nil w, add-zero) h;
+    }
 
 module _ (t : Taken) (known : Known t) where
   one-more : (l x : List ℕ) (w n : ℕ) → AllBytes l → AllBytes x → Fine t l x (2 * w) n
       → Split t (drop (size l) l) (drop 8 x) (w + (4 + wordsOf l)) (n + 1) → Split t l x w n
-  unfolding recordsFrom entriesFrom endFrom flatten
   one-more l x w n b bx f more =
       let s : Shape = shape t known l x w n b bx f in
       let g = encodable t known l x w n b bx f in
@@ -52,9 +60,9 @@ module _ (t : Taken) (known : Known t) where
         left = m .left;
         fine = (g .of-kind, g .well, m .fine);
         held = (g .number-held, g .word-held, g .words-held, g .parts-held, g .points-held, m .held);
-        file = rw (append-assoc, m .file) (rw (lr, zero-add) at (record-stands t known l x w n b bx f .here));
-        entries = rw (append-assoc, m .entries) (rw lt at (entry-stands t known l x w n b bx f .here));
-        stop = rw number (m .stop);
+        file = rw (records-cons (t .kind) n s (m .shapes), append-assoc, m .file) (rw (lr, zero-add) at (record-stands t known l x w n b bx f .here));
+        entries = rw (entriesBytes-cons w s (m .shapes), append-assoc, m .entries) (rw lt at (entry-stands t known l x w n b bx f .here));
+        stop = rw (end-cons w s (m .shapes), number) (m .stop);
       }
 
   by-fault : (l x : List ℕ) (w n : ℕ) → 0 < length l → AllBytes l → AllBytes x

@@ -10,10 +10,10 @@ use Rattle.format.specs.Encoding.{Box}
 use Rattle.format.specs.Kinds.{kindAt}
 use Rattle.format.specs.Shapes.{Shape}
 use Rattle.format.proofs.ByteLaws.{AllBytes}
+use Rattle.format.proofs.HeaderLaws.{boxOf}
 use Rattle.rules.specs.Meaning.{FileOf, Judged}
 use Rattle.rules.specs.Rules.{verdict}
 use Rattle.meaning.proofs.Always.{always, taken, kind-known, code-same, box-same, records-behind}
-use Rattle.meaning.proofs.Header.{boxOf}
 use Rattle.meaning.proofs.Only.{only}
 use Rattle.meaning.proofs.Skip.{one-list}
 

@@ -22,7 +22,7 @@ use Rattle.format.specs.WellFormed.{hasRings, leastPoints}
 use Rattle.format.proofs.KindLaws.{found-code, of-table, found-some, found-none}
 use Rattle.format.proofs.LengthLaws.{content-is}
 use Rattle.rules.specs.Rules.{Taken, littleAt, withForm, takenOf, takenIn}
-use Rattle.meaning.proofs.HeaderRules.{named}
+use Rattle.rules.proofs.HeaderRules.{named}
 use Rattle.meaning.proofs.Table.{known}
 use Rattle.pair.specs.declared.plans.Plan.{Plan}
 use Rattle.pair.specs.declared.plans.Planned.the-variants.{Is, NotTaken}

@@ -9,7 +9,7 @@ use Rattle.format.specs.Order.{first}
 use Rattle.format.specs.Said.{Said, gives, fault}
 use Rattle.format.proofs.OrderLaws.{okAt, no-fault, no-fault-then, fault-first}
 use Rattle.rules.specs.Rules.{Taken, Counts, headRules, shapeRules, recordFault, finish, orOn, size, walkFrom}
-use Rattle.meaning.proofs.WalkLaws.{next, walk-end, walk-record}
+use Rattle.rules.proofs.WalkLaws.{next, walk-end, walk-record}
 use Rattle.pair.specs.Verdicts.{headFault}
 
 -- ---- the walk

@@ -16,8 +16,8 @@ use Rattle.format.specs.Kinds.{kindAt}
 use Rattle.format.specs.Lengths.{Form, formOf}
 use Rattle.format.specs.Shapes.{there}
 use Rattle.format.proofs.OrderLaws.{both-true, _then_, all-pass, no-fault}
+use Rattle.format.proofs.HeaderLaws.{zeros}
 use Rattle.rules.specs.Rules.{Taken, bigAt, littleAt, held, sameBytes, finites, withForm, takenOf, takenIn, lengthRight, headersRules, headersFault}
-use Rattle.meaning.proofs.Header.{zeros}
 
 -- ---- bytes that are the same
 

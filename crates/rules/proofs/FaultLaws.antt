@@ -1,6 +1,6 @@
 -- A record without fault, by what its rules say.
 use mathlib.Core.Path.{_≡_}
-use mathlib.Core.Bool.{_&&_}
+use mathlib.Core.Bool.{true, _&&_}
 use mathlib.Core.List.{List, _++_}
 use Prim.Native.Nat.{ℕ, _+_, _*_, _≤_}
 use lib.Dec.{leb, eqb}
@@ -8,8 +8,15 @@ use lib.ListN.{length}
 use borrow.Author.Tests.{le-leb, leb-true, lt-ltb, ltb-true, eq-eqb, eqb-true}
 use Rattle.format.specs.Encoding.{Held}
 use Rattle.format.proofs.OrderLaws.{both-true, _then_, all-pass, no-fault}
-use Rattle.rules.specs.Rules.{Taken, bigAt, littleAt, held, wordsOf, partsOf, pointsOf, headRules, shapeRules, recordFault}
-use Rattle.meaning.proofs.Shaped.{Met}
+use Rattle.rules.specs.Rules.{Taken, bigAt, littleAt, held, wordsOf, partsOf, pointsOf, headRules, shapeRules, recordFault, P13, P14, P15, P16}
+
+-- what the record's content has to meet
+pub record Met (t : Taken) (l : List ℕ) : Type 0 where
+  pub within : 8 + 2 * wordsOf l ≤ length l
+  pub p13 : P13 t l ≡ true
+  pub p14 : P14 t l ≡ true
+  pub p15 : P15 t l ≡ true
+  pub p16 : P16 t l ≡ true
 
 -- the record of number k at `at`, of which l is what begins with it and x what begins with its entry
 pub record Fine (t : Taken) (l x : List ℕ) (at k : ℕ) : Type 0 where
