@@ -3,19 +3,22 @@ use mathlib.Core.Path.{_≡_, refl, sym, ap, _∙_, subst}
 use mathlib.Core.Bool.{Bool, true, false, cond, _&&_}
 use mathlib.Core.List.{List, [], _∷_}
 use mathlib.Core.Option.{Option, none, some}
-use Prim.Native.Nat.{ℕ, zero, suc, _+_, _≤_, _<_}
+use Prim.Native.Nat.{ℕ, zero, suc, _+_, _-_, _^_, _≤_, _<_}
 use native.Mathlib.Nat.{not-suc-le-zero, le-of-suc-le-suc}
 use native.Mathlib.Numerals.{add-one}
 use native.Mathlib.Omega.{arith}
-use lib.Dec.{T, eqb}
+use lib.Dec.{T, eqb, ltb}
 use lib.IntN.{ℤ, pos, negsuc, natAbs}
 use lib.ListN.{length, getD, getElem?, drop}
 use lib.Seq.{drop-cons}
 use lib.Signed.{ltZ}
-use borrow.Author.Tests.{ltb-true, eq-eqb, eqb-true, ne-eqb}
+use mir.Val.{sel}
+use borrow.Author.Tests.{ltb-true, ltb-false, eq-eqb, eqb-true, ne-eqb}
 use Rattle.format.specs.declared.kinds.Kind.{Kind}
 use Rattle.format.specs.declared.kinds.Found.the-variants.{Is, Unknown}
+use Rattle.format.specs.Bytes.{le, field}
 use Rattle.format.specs.Kinds.{kinds, rowOf, kindAt, found, kindOf}
+use Rattle.format.specs.Numbers.{leI32}
 use Rattle.format.proofs.OrderLaws.{both-true}
 
 -- with d for a row past the end: the search ends at row i, or goes on
@@ -58,6 +61,26 @@ row-in ok (r ∷ rows) (suc i) k t e = row-in ok rows i k (both-true (ok r) (eve
 pub of-table : (ok : Kind → Bool) → every ok kinds ≡ true → (z : ℤ) (k : Kind) → kindAt z ≡ some k → ok k ≡ true
 of-table ok t (pos n) k e = row-in ok kinds (rowOf n kinds) k t e
 of-table ok t (negsuc n) k e = absurd (let z : _≡_ {A = ℕ} 0 1 = cc in omega arith)
+
+-- ---- codes of 32 bits
+
+-- no code of the table is negative
+pub small-code : (z : ℤ) (k : Kind) → kindAt z ≡ some k → k .code < 2 ^ 31
+unfolding kinds
+small-code z k e = ltb-true (k .code) (2 ^ 31) (of-table (λ k. ltb (k .code) (2 ^ 31)) refl z k e)
+
+row-out : (o : Option Kind) (n : ℕ) → kindAt (pos n) ≡ o → 2 ^ 31 ≤ n → o ≡ none
+row-out none n e h = refl
+row-out (some k) n e h = absurd (omega (arith, small-code (pos n) k e, found-code n k e))
+
+by-sign : (n m : ℕ) (b : Bool) → ltb n (2 ^ 31) ≡ b → kindAt (sel b (pos n) (negsuc m)) ≡ kindAt (pos n)
+by-sign n m true t = refl
+by-sign n m false t = sym (row-out (kindAt (pos n)) n refl (ltb-false n (2 ^ 31) t))
+
+-- so a field names the same kind by its bits as by its value
+pub named-at : (at : ℕ) (s : List ℕ) → kindAt (leI32 at s) ≡ kindAt (pos (le (field 4 at s)))
+unfolding leI32
+named-at at s = let n = le (field 4 at s) in by-sign n (2 ^ 32 - suc n) (ltb n (2 ^ 31)) refl
 
 -- ---- what the lookup says of the row
 
