@@ -8,24 +8,21 @@ use lib.ListN.{length, take, drop}
 use borrow.Author.Tests.{leb-true}
 use Rattle.format.specs.Order.{first}
 use Rattle.format.specs.Said.{fault}
-use Rattle.format.proofs.OrderLaws.{no-fault-then, fault-first, no-fault}
+use Rattle.format.proofs.OrderLaws.{no-fault}
 use Rattle.rules.specs.Rules.{Taken, takenIn, headersRules, headersFault, walkFrom, none-yet, verdict}
+use Rattle.rules.proofs.VerdictLaws.{front-first, then-others, faulty}
+use Rattle.rules.proofs.VerdictLaws as headers
 use Rattle.pair.specs.Verdicts.{frontFault, backFault}
-use Rattle.pair.proofs.RecordLaws.{on-fault}
 
 module _ (shp shx : List ℕ) where
-  faulty : (r : ℕ) → headersFault shp shx ≡ r → (r ≡ 0 → ⊥) → fault r 0 ≡ verdict shp shx
-  unfolding verdict
-  faulty r e n = sym (rw e (on-fault r 0 _ n))
-
   pub by-front : (r : ℕ) → r ≡ frontFault shp shx → (r ≡ 0 → ⊥) → fault r 0 ≡ verdict shp shx
-  unfolding headersFault frontFault
-  by-front r e n = faulty r (fault-first (take 3 (headersRules shp shx)) (drop 3 (headersRules shp shx)) r (sym e) n) n
+  unfolding frontFault
+  by-front r e n = faulty shp shx r (front-first shp shx r (sym e) n) n
 
   module _ (front : 0 ≡ frontFault shp shx) where
     further : headersFault shp shx ≡ first (drop 3 (headersRules shp shx)) 0
-    unfolding headersFault frontFault
-    further = no-fault-then (take 3 (headersRules shp shx)) tt (sym front) (drop 3 (headersRules shp shx))
+    unfolding frontFault
+    further = then-others shp shx (sym front)
 
     pub both-long : (100 ≤ length shp) × (100 ≤ length shx)
     unfolding frontFault
@@ -34,7 +31,7 @@ module _ (shp shx : List ℕ) where
         (leb-true 100 (length shp) (met 0), leb-true 100 (length shx) (met 1))
 
     pub by-kind : takenIn shp ≡ none → fault 4 0 ≡ verdict shp shx
-    by-kind e = faulty 4 (further ∙ rw e) (λ z. omega arith)
+    by-kind e = faulty shp shx 4 (further ∙ rw e) (λ z. omega arith)
 
     module _ (t : Taken) (is : takenIn shp ≡ some t) where
       last : headersFault shp shx ≡ backFault shp shx
@@ -42,8 +39,7 @@ module _ (shp shx : List ℕ) where
       last = further ∙ rw is
 
       pub by-back : (r : ℕ) → r ≡ backFault shp shx → (r ≡ 0 → ⊥) → fault r 0 ≡ verdict shp shx
-      by-back r e n = faulty r (last ∙ sym e) n
+      by-back r e n = faulty shp shx r (last ∙ sym e) n
 
       pub by-records : 0 ≡ backFault shp shx → walkFrom t (drop 100 shp) (drop 100 shx) 100 none-yet ≡ verdict shp shx
-      unfolding verdict
-      by-records e = sym (rw (last ∙ sym e, is))
+      by-records e = headers.by-records shp shx t (last ∙ sym e) is
