@@ -3,7 +3,7 @@ use mathlib.Core.Path.{_≡_, refl, sym, ap, _∙_, subst}
 use mathlib.Core.Bool.{Bool, true, false, cond, _&&_}
 use mathlib.Core.List.{List, [], _∷_}
 use mathlib.Core.Option.{Option, none, some}
-use Prim.Native.Nat.{ℕ, zero, suc, _+_, _-_, _^_, _≤_, _<_}
+use Prim.Native.Nat.{ℕ, zero, suc, _+_, _^_, _≤_, _<_}
 use native.Mathlib.Nat.{not-suc-le-zero, le-of-suc-le-suc}
 use native.Mathlib.Numerals.{add-one}
 use native.Mathlib.Omega.{arith}
@@ -62,26 +62,6 @@ pub of-table : (ok : Kind → Bool) → every ok kinds ≡ true → (z : ℤ) (k
 of-table ok t (pos n) k e = row-in ok kinds (rowOf n kinds) k t e
 of-table ok t (negsuc n) k e = absurd (let z : _≡_ {A = ℕ} 0 1 = cc in omega arith)
 
--- ---- codes of 32 bits
-
--- no code of the table is negative
-pub small-code : (z : ℤ) (k : Kind) → kindAt z ≡ some k → k .code < 2 ^ 31
-unfolding kinds
-small-code z k e = ltb-true (k .code) (2 ^ 31) (of-table (λ k. ltb (k .code) (2 ^ 31)) refl z k e)
-
-row-out : (o : Option Kind) (n : ℕ) → kindAt (pos n) ≡ o → 2 ^ 31 ≤ n → o ≡ none
-row-out none n e h = refl
-row-out (some k) n e h = absurd (omega (arith, small-code (pos n) k e, found-code n k e))
-
-by-sign : (n m : ℕ) (b : Bool) → ltb n (2 ^ 31) ≡ b → kindAt (sel b (pos n) (negsuc m)) ≡ kindAt (pos n)
-by-sign n m true t = refl
-by-sign n m false t = sym (row-out (kindAt (pos n)) n refl (ltb-false n (2 ^ 31) t))
-
--- so a field names the same kind by its bits as by its value
-pub named-at : (at : ℕ) (s : List ℕ) → kindAt (leI32 at s) ≡ kindAt (pos (le (field 4 at s)))
-unfolding leI32
-named-at at s = let n = le (field 4 at s) in by-sign n (2 ^ 32 - suc n) (ltb n (2 ^ 31)) refl
-
 -- ---- what the lookup says of the row
 
 pub found-some : (o : Option Kind) (k : Kind) → found o ≡ Is k → o ≡ some k
@@ -123,3 +103,23 @@ module _ (z : ℤ) (e : ltZ z (pos 0) ≡ false) (i : ℕ) (r : i ≡ rowOf (nat
   pub kind-out : 14 ≤ i → Unknown ≡ kindOf z
   unfolding kinds
   kind-out h = sym (kindOf-non z e ∙ ap found (ap (getElem? kinds) (sym r) ∙ elem-out kinds i h))
+
+-- ---- codes of 32 bits
+
+-- no code of the table is negative
+small-code : (z : ℤ) (k : Kind) → kindAt z ≡ some k → k .code < 2 ^ 31
+unfolding kinds
+small-code z k e = ltb-true (k .code) (2 ^ 31) (of-table (λ k. ltb (k .code) (2 ^ 31)) refl z k e)
+
+row-out : (o : Option Kind) (n : ℕ) → kindAt (pos n) ≡ o → 2 ^ 31 ≤ n → o ≡ none
+row-out none n e h = refl
+row-out (some k) n e h = absurd (omega (arith, small-code (pos n) k e, found-code n k e))
+
+by-sign : (n m : ℕ) (b : Bool) → ltb n (2 ^ 31) ≡ b → kindAt (sel b (pos n) (negsuc m)) ≡ kindAt (pos n)
+by-sign n m true t = refl
+by-sign n m false t = sym (row-out (kindAt (pos n)) n refl (ltb-false n (2 ^ 31) t))
+
+-- so a field names the same kind by its bits as by its value
+pub named-at : (at : ℕ) (s : List ℕ) → kindAt (leI32 at s) ≡ kindAt (pos (le (field 4 at s)))
+unfolding leI32
+named-at at s = by-sign (le (field 4 at s)) _ (ltb (le (field 4 at s)) (2 ^ 31)) refl

@@ -21,7 +21,7 @@ use Rattle.format.proofs.Equations.{kindOf-is, lengthsOf-is, rings-is, least-is
 use Rattle.format.proofs.KindLaws.{named-at, found-some, found-none}
 use Rattle.format.proofs.LengthLaws.{content-is, Flags, form-flags}
 use Rattle.rules.specs.Rules.{Taken, littleAt, withForm, takenOf, takenIn}
-use Rattle.rules.proofs.VerdictLaws.{taken-is}
+use Rattle.rules.proofs.FirstFault.{taken-is}
 use Rattle.meaning.proofs.HeaderRules.{named}
 use Rattle.meaning.proofs.Table.{known}
 use Rattle.pair.specs.declared.plans.Plan.{Plan}

@@ -10,14 +10,17 @@ use Rattle.format.specs.Order.{first}
 use Rattle.format.specs.Said.{fault}
 use Rattle.format.proofs.OrderLaws.{no-fault}
 use Rattle.rules.specs.Rules.{Taken, takenIn, headersRules, headersFault, walkFrom, none-yet, verdict}
-use Rattle.rules.proofs.VerdictLaws.{front-first, then-others, faulty}
-use Rattle.rules.proofs.VerdictLaws as headers
+use Rattle.rules.proofs.FirstFault.{front-first, then-others}
+use Rattle.rules.proofs.VerdictLaws.{fault-on, verdict-is, verdict-walk}
 use Rattle.pair.specs.Verdicts.{frontFault, backFault}
 
 module _ (shp shx : List ℕ) where
+  faulty : (r : ℕ) → headersFault shp shx ≡ r → (r ≡ 0 → ⊥) → fault r 0 ≡ verdict shp shx
+  faulty r e n = sym (verdict-is shp shx ∙ rw e (fault-on r 0 _ (omega (arith, n))))
+
   pub by-front : (r : ℕ) → r ≡ frontFault shp shx → (r ≡ 0 → ⊥) → fault r 0 ≡ verdict shp shx
   unfolding frontFault
-  by-front r e n = faulty shp shx r (front-first shp shx r (sym e) n) n
+  by-front r e n = faulty r (front-first shp shx r (sym e) n) n
 
   module _ (front : 0 ≡ frontFault shp shx) where
     further : headersFault shp shx ≡ first (drop 3 (headersRules shp shx)) 0
@@ -31,7 +34,7 @@ module _ (shp shx : List ℕ) where
         (leb-true 100 (length shp) (met 0), leb-true 100 (length shx) (met 1))
 
     pub by-kind : takenIn shp ≡ none → fault 4 0 ≡ verdict shp shx
-    by-kind e = faulty shp shx 4 (further ∙ rw e) (λ z. omega arith)
+    by-kind e = faulty 4 (further ∙ rw e) (λ z. omega arith)
 
     module _ (t : Taken) (is : takenIn shp ≡ some t) where
       last : headersFault shp shx ≡ backFault shp shx
@@ -39,7 +42,7 @@ module _ (shp shx : List ℕ) where
       last = further ∙ rw is
 
       pub by-back : (r : ℕ) → r ≡ backFault shp shx → (r ≡ 0 → ⊥) → fault r 0 ≡ verdict shp shx
-      by-back r e n = faulty shp shx r (last ∙ sym e) n
+      by-back r e n = faulty r (last ∙ sym e) n
 
       pub by-records : 0 ≡ backFault shp shx → walkFrom t (drop 100 shp) (drop 100 shx) 100 none-yet ≡ verdict shp shx
-      by-records e = headers.by-records shp shx t (last ∙ sym e) is
+      by-records e = sym (verdict-walk shp shx t (last ∙ sym e) is)

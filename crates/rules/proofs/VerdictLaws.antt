@@ -1,35 +1,37 @@
--- The verdict by the headers: the kind that they name, the first fault in them and what it makes of the verdict, and that without one the records have it.
-use mathlib.Core.Path.{_≡_, refl, sym}
-use mathlib.Core.List.{List}
+-- The end of a walk and the verdict, by what they say: a yes, or a fault and where.
+use mathlib.Core.Path.{_≡_, refl}
+use mathlib.Core.List.{List, [], _∷_}
 use mathlib.Core.Option.{some}
-use Prim.Native.Nat.{ℕ}
-use lib.IntN.{pos}
-use lib.ListN.{take, drop}
-use Rattle.format.specs.Kinds.{kindAt}
-use Rattle.format.specs.Order.{first}
-use Rattle.format.specs.Said.{fault}
-use Rattle.format.proofs.OrderLaws.{no-fault-then, fault-first}
-use Rattle.rules.specs.Rules.{Taken, littleAt, takenOf, takenIn, headersRules, headersFault, walkFrom, none-yet, verdict}
-use Rattle.rules.proofs.RecordLaws.{on-fault}
+use Prim.Native.Nat.{ℕ, zero, suc, _+_, _<_}
+use native.Mathlib.Omega.{arith}
+use lib.ListN.{length, drop}
+use Rattle.format.specs.Said.{Said, gives, fault}
+use Rattle.rules.specs.Rules.{Taken, Counts, takenIn, headersFault, finish, orOn, walkFrom, none-yet, recordsVerdict, verdict}
 
-pub taken-is : (shp : List ℕ) → takenIn shp ≡ takenOf (kindAt (pos (littleAt 32 shp)))
-unfolding takenIn
-taken-is shp = refl
+-- ---- a rule, or what comes behind it
+
+pub fault-on : (f k : ℕ) (v : Said Counts) → 0 < f → orOn f k v ≡ fault f k
+fault-on zero k v h = absurd (omega arith)
+fault-on (suc f) k v h = refl
+
+-- ---- the end of a walk
+
+pub finish-gives : (c : Counts) → finish [] c ≡ gives c
+unfolding finish
+finish-gives c = refl
+
+pub over-left : (x : List ℕ) (c : Counts) → 0 < length x → finish x c ≡ fault 17 (c .records + 1)
+unfolding finish
+over-left [] c h = absurd (omega arith)
+over-left (a ∷ x) c h = refl
+
+-- ---- the verdict
 
 module _ (shp shx : List ℕ) where
-  -- P1 to P3 come before the others
-  pub front-first : (r : ℕ) → first (take 3 (headersRules shp shx)) 0 ≡ r → (r ≡ 0 → ⊥) → headersFault shp shx ≡ r
-  unfolding headersFault
-  front-first r e n = fault-first (take 3 (headersRules shp shx)) (drop 3 (headersRules shp shx)) r e n
-
-  pub then-others : first (take 3 (headersRules shp shx)) 0 ≡ 0 → headersFault shp shx ≡ first (drop 3 (headersRules shp shx)) 0
-  unfolding headersFault
-  then-others e = no-fault-then (take 3 (headersRules shp shx)) tt e (drop 3 (headersRules shp shx))
-
-  pub faulty : (r : ℕ) → headersFault shp shx ≡ r → (r ≡ 0 → ⊥) → fault r 0 ≡ verdict shp shx
+  pub verdict-is : verdict shp shx ≡ orOn (headersFault shp shx) 0 (recordsVerdict (takenIn shp) shp shx)
   unfolding verdict
-  faulty r e n = sym (rw e (on-fault r 0 _ n))
+  verdict-is = refl
 
-  pub by-records : (t : Taken) → headersFault shp shx ≡ 0 → takenIn shp ≡ some t → walkFrom t (drop 100 shp) (drop 100 shx) 100 none-yet ≡ verdict shp shx
+  pub verdict-walk : (t : Taken) → headersFault shp shx ≡ 0 → takenIn shp ≡ some t → verdict shp shx ≡ walkFrom t (drop 100 shp) (drop 100 shx) 100 none-yet
   unfolding verdict
-  by-records t e is = sym (rw (e, is))
+  verdict-walk t h n = rw (h, n)
