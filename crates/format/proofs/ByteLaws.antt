@@ -1,14 +1,29 @@
--- Laws of numbers as bytes, over the width: reading undoes writing, and writing undoes reading.
+-- Laws of fields, and of numbers as bytes, over the width: reading undoes writing, and writing undoes reading.
 use mathlib.Core.Path.{_≡_, refl, sym, ap, _∙_}
 use mathlib.Core.List.{List, [], _∷_, reverse, reverseAux, reverse-reverse}
 use Prim.Native.Nat.{ℕ, zero, suc, _+_, _*_, _/_, _%_, _^_, _≤_, _<_}
 use native.Mathlib.Nat.{mul-suc}
+use native.Mathlib.Numerals.{add-one}
 use native.Mathlib.Omega.{arith}
 use lib.Dec.{lit<}
 use lib.Pow.{pow-add}
 use lib.ListN.{length, getD, take, drop, length-reverse, length-drop}
-use lib.Seq.{length-take-le}
+use lib.Seq.{length-take-le, drop-cons, drop-drop}
 use Rattle.format.specs.Bytes.{le, be, leBytes, beBytes, field}
+
+-- ---- a field, a byte at a time, and behind a place
+
+pub field-none : (at : ℕ) (s : List ℕ) → field 0 at s ≡ []
+unfolding field
+field-none at s = refl
+
+pub field-cons : (n at : ℕ) (s : List ℕ) → at < length s → field (suc n) at s ≡ getD s at 0 ∷ field n (at + 1) s
+unfolding field
+field-cons n at s h = rw (add-one, drop-cons s at 0)
+
+pub field-drop : (n i at : ℕ) (s : List ℕ) → field n i (drop at s) ≡ field n (at + i) s
+unfolding field
+field-drop n i at s = rw drop-drop
 
 -- ---- lengths
 

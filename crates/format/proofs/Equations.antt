@@ -1,9 +1,10 @@
 -- What the definitions of specs/ say, case by case: the crates above cite these equations and do not unfold a definition.
 use mathlib.Core.Path.{_≡_, refl}
-use mathlib.Core.Bool.{Bool, false, cond}
+use mathlib.Core.Bool.{Bool, false, cond, _||_}
 use mathlib.Core.List.{List, [], _∷_, _++_, map, flatten}
 use mathlib.Core.Option.{Option, Option·map}
 use Prim.Native.Nat.{ℕ, suc, _+_, _*_, _/_, _%_}
+use lib.Dec.{eqb}
 use lib.Ieee.{Float, binary64, ofBits, toBits}
 use lib.IntN.{ℤ}
 use lib.ListN.{length, take, drop}
@@ -162,6 +163,10 @@ points-point xy z m = refl
 pub points-parted : (s : Parts) → pointsIn (parted s) ≡ length (flatten (s .parts))
 unfolding pointsIn
 points-parted s = refl
+
+pub rings-is : (k : Kind) → hasRings k ≡ (eqb (k .code) 5 || eqb (k .code) 15 || eqb (k .code) 25)
+unfolding hasRings
+rings-is k = refl
 
 pub least-is : (k : Kind) → leastPoints k ≡ cond (hasRings k) 4 2
 unfolding leastPoints

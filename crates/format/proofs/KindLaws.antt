@@ -12,7 +12,8 @@ use lib.IntN.{ℤ, pos, negsuc, natAbs}
 use lib.ListN.{length, getD, getElem?, drop}
 use lib.Seq.{drop-cons}
 use lib.Signed.{ltZ}
-use borrow.Author.Tests.{ltb-true, eq-eqb, eqb-true, ne-eqb}
+use mir.Val.{sel}
+use borrow.Author.Tests.{ltb-true, ltb-false, eq-eqb, eqb-true, ne-eqb}
 use Rattle.format.specs.declared.kinds.Kind.{Kind}
 use Rattle.format.specs.declared.kinds.Found.the-variants.{Is, Unknown}
 use Rattle.format.specs.Encoding.{Held}
@@ -20,6 +21,8 @@ use Rattle.format.specs.Kinds.{kinds, rowOf, kindAt, found, kindOf}
 use Rattle.format.specs.Lengths.{Form, nothing, onePoint, formOf}
 use Rattle.format.specs.Lengths
 use Rattle.format.specs.WellFormed.{hasRings}
+use Rattle.format.specs.Bytes.{le, field}
+use Rattle.format.specs.Numbers.{leI32}
 use Rattle.format.proofs.OrderLaws.{both-true}
 
 -- with d for a row past the end: the search ends at row i, or goes on
@@ -135,3 +138,23 @@ module _ (z : ℤ) (e : ltZ z (pos 0) ≡ false) (i : ℕ) (r : i ≡ rowOf (nat
   pub kind-out : 14 ≤ i → Unknown ≡ kindOf z
   unfolding kinds
   kind-out h = sym (kindOf-non z e ∙ ap found (ap (getElem? kinds) (sym r) ∙ elem-out kinds i h))
+
+-- ---- codes of 32 bits
+
+-- no code of the table is negative
+small-code : (z : ℤ) (k : Kind) → kindAt z ≡ some k → k .code < 2 ^ 31
+unfolding kinds
+small-code z k e = ltb-true (k .code) (2 ^ 31) (of-table (λ k. ltb (k .code) (2 ^ 31)) refl z k e)
+
+row-out : (o : Option Kind) (n : ℕ) → kindAt (pos n) ≡ o → 2 ^ 31 ≤ n → o ≡ none
+row-out none n e h = refl
+row-out (some k) n e h = absurd (omega (arith, small-code (pos n) k e, found-code n k e))
+
+by-sign : (n m : ℕ) (b : Bool) → ltb n (2 ^ 31) ≡ b → kindAt (sel b (pos n) (negsuc m)) ≡ kindAt (pos n)
+by-sign n m true t = refl
+by-sign n m false t = sym (row-out (kindAt (pos n)) n refl (ltb-false n (2 ^ 31) t))
+
+-- so a field names the same kind by its bits as by its value
+pub named-at : (at : ℕ) (s : List ℕ) → kindAt (leI32 at s) ≡ kindAt (pos (le (field 4 at s)))
+unfolding leI32
+named-at at s = by-sign (le (field 4 at s)) _ (ltb (le (field 4 at s)) (2 ^ 31)) refl

@@ -1,12 +1,12 @@
 -- Laws of content lengths. The constant table beside the kinds holds each kind's formulas: one computed test over the whole table.
 use mathlib.Core.Path.{_≡_, refl, sym, ap, _∙_}
-use mathlib.Core.Bool.{Bool, true, false, cond}
+use mathlib.Core.Bool.{Bool, true, false, cond, _&&_, _||_, not}
 use mathlib.Core.List.{List, [], _∷_, map}
-use mathlib.Core.Option.{Option, some, bind}
-use Prim.Native.Nat.{ℕ, zero, suc, _*_, _^_, _≤_, _<_}
+use mathlib.Core.Option.{Option, none, some, bind}
+use Prim.Native.Nat.{ℕ, zero, suc, _+_, _*_, _^_, _≤_, _<_}
 use native.Mathlib.Nat.{not-suc-le-zero, le-of-suc-le-suc, le-of-lt, lt-of-le-of-lt, mul-le-mul-left, mul-lt-mul-of-pos-right}
 use native.Mathlib.Omega.{arith}
-use lib.Dec.{ltb}
+use lib.Dec.{eqb, ltb}
 use lib.IntN.{ℤ, pos}
 use lib.ListN.{length, getD, getElem?}
 use lib.Pow.{pow-pos}
@@ -18,8 +18,8 @@ use Rattle.format.specs.declared.lengths.Counted.the-variants.{Is, Long}
 use Rattle.format.specs.declared.lengths.Formula.{Formula}
 use Rattle.format.specs.declared.units.Words.{Words}
 use Rattle.format.specs.Kinds.{kind, kinds, rowOf, kindAt}
-use Rattle.format.specs.Lengths.{formOf, fixedWords, pointWords, lengthsOf, taken, contentOf, formulaWords, counted}
-use Rattle.format.proofs.KindLaws.{code-is, elem-in, elem-out}
+use Rattle.format.specs.Lengths.{Form, nothing, onePoint, parts, formOf, fixedWords, pointWords, contentWords, lengthsOf, taken, contentOf, formulaWords, counted}
+use Rattle.format.proofs.KindLaws.{code-is, of-table, elem-in, elem-out}
 
 abbrev row : ℕ → ℕ → ℕ → ℕ → Content
 row f p fm pm = Taken (record { without = record { fixed = f; point = p }; with = record { fixed = fm; point = pm } })
@@ -69,7 +69,37 @@ pub content-is : (z : ℤ) (k : Kind) → kindAt z ≡ some k → contentOf (k .
 unfolding contentOf bind
 content-is z k e = ap (λ (o : Option Kind). taken (bind o lengthsOf)) (sym (ap kindAt (code-is z k e)) ∙ e)
 
+-- ---- what a kind's form says of its code and its parts
+
+abbrev pub Flags : Kind → Form → Type 0
+Flags k nothing = (eqb (k .code) 0 ≡ true) × (k .parts ≡ false)
+Flags k onePoint = (eqb (k .code) 0 ≡ false) × (k .parts ≡ false)
+Flags k parts = (eqb (k .code) 0 ≡ false) × (k .parts ≡ true)
+
+-- code 0 has no parts
+abbrev plain : Kind → Bool
+plain k = not (eqb (k .code) 0 && k .parts)
+
+pub form-flags : (z : ℤ) (k : Kind) (f : Form) → kindAt z ≡ some k → formOf k ≡ some f → Flags k f
+unfolding formOf kinds
+form-flags z k f h e = go (eqb (k .code) 8 || eqb (k .code) 18 || eqb (k .code) 28 || eqb (k .code) 31) (eqb (k .code) 0) (k .parts) refl refl (of-table plain refl z k h) e
+  where
+    go : (u n p : Bool) → eqb (k .code) 0 ≡ n → k .parts ≡ p → not (n && p) ≡ true → cond u none (cond n (some nothing) (cond p (some parts) (some onePoint))) ≡ some f → Flags k f
+    go true n p a b t e = absurd (let z : _≡_ {A = ℕ} 0 1 = cc in omega arith)
+    go false true true a b t e = absurd (let z : _≡_ {A = ℕ} 0 1 = cc in omega arith)
+    go false true false a b t e = let q : nothing ≡ f = cc in rw (← q) (a, b)
+    go false false true a b t e = let q : parts ≡ f = cc in rw (← q) (a, b)
+    go false false false a b t e = let q : onePoint ≡ f = cc in rw (← q) (a, b)
+
 -- ---- what a formula comes to
+
+-- at least the fixed words, the starts, and x and y
+pub least-words : (z m : Bool) (p n : ℕ) → 22 + 2 * p + 8 * n ≤ contentWords parts z m p n
+unfolding contentWords fixedWords pointWords
+least-words true true p n = omega arith
+least-words true false p n = omega arith
+least-words false true p n = omega arith
+least-words false false p n = omega arith
 
 module _ (f : Formula) (p n : ℕ) where
   pub counted-long : Long ≡ counted f p n → 2 ^ 31 ≤ formulaWords f p n

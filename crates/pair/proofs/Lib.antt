@@ -1,12 +1,10 @@
 -- Laws of the rules, as the code meets them.
 pub mod FormulaLaws
 pub mod HeadLaws
-pub mod PlaceLaws
 pub mod PlanLaws
 pub mod RecordLaws
 pub mod SaidLaws
 pub mod ShapeLaws
-pub mod Turns
 pub mod UnitLaws
 pub mod VerdictLaws
 pub mod WalkLaws

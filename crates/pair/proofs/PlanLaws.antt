@@ -1,106 +1,74 @@
 -- The plan of a kind, by what the lookups answer: they find the kind that the rules take, or none.
 use mathlib.Core.Path.{_≡_, refl, sym, ap, _∙_}
-use mathlib.Core.Bool.{Bool, true, false, cond, _&&_, _||_, not}
+use mathlib.Core.Bool.{Bool, true, cond, _||_}
 use mathlib.Core.List.{List}
 use mathlib.Core.Option.{Option, none, some, Option·map}
-use Prim.Native.Nat.{ℕ, suc, _-_, _^_, _≤_, _<_}
+use Prim.Native.Nat.{ℕ}
 use native.Mathlib.Omega.{arith}
-use lib.Dec.{eqb, ltb}
-use lib.IntN.{pos, negsuc}
-use mir.Val.{sel}
-use borrow.Author.Tests.{ltb-true, ltb-false}
+use lib.Dec.{eqb}
+use lib.IntN.{pos}
 use Rattle.format.specs.declared.kinds.Kind.{Kind}
 use Rattle.format.specs.declared.kinds.Found.{Found}
 use Rattle.format.specs.declared.kinds.Found.the-variants as Found
 use Rattle.format.specs.declared.lengths.Lengths.{Lengths}
 use Rattle.format.specs.declared.lengths.Content.{Content}
 use Rattle.format.specs.declared.lengths.Content.the-variants as Content
-use Rattle.format.specs.Kinds.{kinds, kindOf, kindAt}
-use Rattle.format.specs.Lengths.{Form, nothing, onePoint, parts, formOf, lengthsFor, lengthsOf, taken, contentOf}
+use Rattle.format.specs.Kinds.{kindOf, kindAt}
+use Rattle.format.specs.Lengths.{Form, nothing, onePoint, parts, formOf, lengthsFor, taken, contentOf}
 use Rattle.format.specs.Numbers.{leI32}
 use Rattle.format.specs.WellFormed.{hasRings, leastPoints}
-use Rattle.format.proofs.KindLaws.{found-code, of-table, found-some, found-none}
-use Rattle.format.proofs.LengthLaws.{content-is}
+use Rattle.format.proofs.Equations.{kindOf-is, lengthsOf-is, rings-is, least-is}
+use Rattle.format.proofs.KindLaws.{named-at, found-some, found-none}
+use Rattle.format.proofs.LengthLaws.{content-is, Flags, form-flags}
 use Rattle.rules.specs.Rules.{Taken, littleAt, withForm, takenOf, takenIn}
 use Rattle.rules.proofs.HeaderRules.{named}
+use Rattle.rules.proofs.FirstFault.{taken-is}
 use Rattle.meaning.proofs.Table.{known}
 use Rattle.pair.specs.declared.plans.Plan.{Plan}
 use Rattle.pair.specs.declared.plans.Planned.the-variants.{Is, NotTaken}
 use Rattle.pair.specs.Plans.{hasParts, pointsAlone, planFor, planned, alone, takenFrom}
 
--- ---- the table
-
--- no code of the table is negative
-small : (k : Kind) (n : ℕ) → kindAt (pos n) ≡ some k → k .code < 2 ^ 31
-unfolding kinds
-small k n e = ltb-true (k .code) (2 ^ 31) (of-table (λ k. ltb (k .code) (2 ^ 31)) refl (pos n) k e)
-
-row-out : (o : Option Kind) (n : ℕ) → kindAt (pos n) ≡ o → 2 ^ 31 ≤ n → o ≡ none
-row-out none n e h = refl
-row-out (some k) n e h = absurd (omega (arith, small k n e, found-code n k e))
-
 -- ---- the kind
-
-by-sign : (n m : ℕ) (b : Bool) → ltb n (2 ^ 31) ≡ b → kindAt (sel b (pos n) (negsuc m)) ≡ kindAt (pos n)
-by-sign n m true t = refl
-by-sign n m false t = sym (row-out (kindAt (pos n)) n refl (ltb-false n (2 ^ 31) t))
-
-named-at : (s : List ℕ) → kindAt (leI32 32 s) ≡ kindAt (pos (littleAt 32 s))
-unfolding leI32
-named-at s = by-sign (littleAt 32 s) (2 ^ 32 - suc (littleAt 32 s)) (ltb (littleAt 32 s) (2 ^ 31)) refl
 
 -- the kind that the header names, and the formulas beside it
 kind-at : (s : List ℕ) (k : Kind) → kindOf (leI32 32 s) ≡ Found.Is k → kindAt (pos (littleAt 32 s)) ≡ some k
-unfolding kindOf
-kind-at s k e = sym (named-at s) ∙ found-some (kindAt (leI32 32 s)) k e
+kind-at s k e = sym (named-at 32 s) ∙ found-some (kindAt (leI32 32 s)) k (sym (kindOf-is (leI32 32 s)) ∙ e)
 
-content-at : (s : List ℕ) (k : Kind) → kindOf (leI32 32 s) ≡ Found.Is k → contentOf (k .code) ≡ taken (lengthsOf k)
-content-at s k e = content-is (pos (littleAt 32 s)) k (kind-at s k e)
+content-at : (s : List ℕ) (k : Kind) → kindOf (leI32 32 s) ≡ Found.Is k → contentOf (k .code) ≡ taken (Option·map (lengthsFor k) (formOf k))
+content-at s k e = content-is (pos (littleAt 32 s)) k (kind-at s k e) ∙ ap taken (lengthsOf-is k)
 
 taken-at : (s : List ℕ) (k : Kind) → kindOf (leI32 32 s) ≡ Found.Is k → takenIn s ≡ takenOf (some k)
-unfolding takenIn
-taken-at s k e = ap takenOf (kind-at s k e)
+taken-at s k e = taken-is s ∙ ap takenOf (kind-at s k e)
 
 -- ---- the plan
 
 pub unknown : (s : List ℕ) → kindOf (leI32 32 s) ≡ Found.Unknown → NotTaken ≡ planned (takenIn s)
-unfolding takenIn kindOf
-unknown s e = sym (ap (λ (o : Option Kind). planned (takenOf o)) (sym (named-at s) ∙ found-none (kindAt (leI32 32 s)) e))
+unknown s e = sym (ap planned (taken-is s ∙ ap takenOf (sym (named-at 32 s) ∙ found-none (kindAt (leI32 32 s)) (sym (kindOf-is (leI32 32 s)) ∙ e))))
 
 by-form : (k : Kind) (o : Option Form) → taken (Option·map (lengthsFor k) o) ≡ Content.NotTaken → NotTaken ≡ planned (withForm k o)
 by-form k none e = refl
 by-form k (some f) e = absurd (let z : _≡_ {A = ℕ} 0 1 = cc in omega arith)
 
 pub not-taken : (s : List ℕ) (k : Kind) → kindOf (leI32 32 s) ≡ Found.Is k → contentOf (k .code) ≡ Content.NotTaken → NotTaken ≡ planned (takenIn s)
-unfolding lengthsOf
 not-taken s k e n = by-form k (formOf k) (sym (content-at s k e) ∙ n) ∙ sym (ap planned (taken-at s k e))
 
 -- a kind without parts has code 0, or one point
-plain : Kind → Bool
-plain k = not (eqb (k .code) 0 && k .parts)
+form-parts : (k : Kind) (f : Form) → Flags k f → (k .parts ≡ hasParts f) × (cond (eqb (k .code) 0) 0 1 ≡ pointsAlone f)
+form-parts k nothing e = (e .1, rw (e .0))
+form-parts k onePoint e = (e .1, rw (e .0))
+form-parts k parts e = (e .1, rw (e .0))
 
-form-parts : (k : Kind) (f : Form) → plain k ≡ true → formOf k ≡ some f → (k .parts ≡ hasParts f) × (cond (eqb (k .code) 0) 0 1 ≡ pointsAlone f)
-unfolding formOf plain
-form-parts k f t e = go (eqb (k .code) 8 || eqb (k .code) 18 || eqb (k .code) 28 || eqb (k .code) 31) (eqb (k .code) 0) (k .parts) t e
-  where
-    go : (u z p : Bool) → not (z && p) ≡ true → cond u none (cond z (some nothing) (cond p (some parts) (some onePoint))) ≡ some f → (p ≡ hasParts f) × (cond z 0 1 ≡ pointsAlone f)
-    go true z p t e = absurd (let z : _≡_ {A = ℕ} 0 1 = cc in omega arith)
-    go false true true t e = absurd (let z : _≡_ {A = ℕ} 0 1 = cc in omega arith)
-    go false true false t e = let q : nothing ≡ f = cc in rw (← q) (refl, refl)
-    go false false true t e = let q : parts ≡ f = cc in rw (← q) (refl, refl)
-    go false false false t e = let q : onePoint ≡ f = cc in rw (← q) (refl, refl)
-
-module _ (k : Kind) (l : Lengths) (points least : ℕ) (rings : Bool) (ok : plain k ≡ true) (ps : points ≡ cond (eqb (k .code) 0) 0 1) (rs : rings ≡ (eqb (k .code) 5 || eqb (k .code) 15 || eqb (k .code) 25)) (ls : least ≡ cond rings 4 2) where
+module _ (k : Kind) (l : Lengths) (points least : ℕ) (rings : Bool) (ok : (f : Form) → formOf k ≡ some f → Flags k f) (ps : points ≡ cond (eqb (k .code) 0) 0 1) (rs : rings ≡ (eqb (k .code) 5 || eqb (k .code) 15 || eqb (k .code) 25)) (ls : least ≡ cond rings 4 2) where
   plan-by : (o : Option Form) → formOf k ≡ o → taken (Option·map (lengthsFor k) o) ≡ Content.Taken l → Is (record { kind = k; parts = k .parts; points = points; rings = rings; least = least; lengths = l }) ≡ planned (withForm k o)
-  unfolding hasRings leastPoints
   plan-by none h e = absurd (let z : _≡_ {A = ℕ} 0 1 = cc in omega arith)
   plan-by (some f) h e =
       let q : lengthsFor k f ≡ l = cc in
-      let p = form-parts k f ok h in
+      let p = form-parts k f (ok f h) in
       let b = p .0 in
       let n = ps ∙ p .1 in
-      let m : least ≡ cond (hasRings k) 4 2 = ls ∙ ap (λ (x : Bool). cond x 4 2) rs in
-      λ i. Is (record { kind = k; parts = b i; points = n i; rings = rs i; least = m i; lengths = sym q i })
+      let r = rs ∙ sym (rings-is k) in
+      let m : least ≡ leastPoints k = ls ∙ (ap (λ (x : Bool). cond x 4 2) r ∙ sym (least-is k)) in
+      λ i. Is (record { kind = k; parts = b i; points = n i; rings = r i; least = m i; lengths = sym q i })
 
 pub is-taken : (s : List ℕ) (k : Kind) (l : Lengths) (points least : ℕ) (rings : Bool)
     → kindOf (leI32 32 s) ≡ Found.Is k
@@ -109,9 +77,8 @@ pub is-taken : (s : List ℕ) (k : Kind) (l : Lengths) (points least : ℕ) (rin
     → rings ≡ (eqb (k .code) 5 || eqb (k .code) 15 || eqb (k .code) 25)
     → least ≡ cond rings 4 2
     → Is (record { kind = k; parts = k .parts; points = points; rings = rings; least = least; lengths = l }) ≡ planned (takenIn s)
-unfolding kinds plain lengthsOf
 is-taken s k l points least rings e n ps rs ls =
-    plan-by k l points least rings (of-table plain refl (pos (littleAt 32 s)) k (kind-at s k e)) ps rs ls (formOf k) refl (sym (content-at s k e) ∙ n)
+    plan-by k l points least rings (λ f. form-flags (pos (littleAt 32 s)) k f (kind-at s k e)) ps rs ls (formOf k) refl (sym (content-at s k e) ∙ n)
     ∙ sym (ap planned (taken-at s k e))
 
 -- a plan tells the kind that it is for

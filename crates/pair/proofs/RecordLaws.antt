@@ -1,14 +1,16 @@
 -- The verdict of a walk, a record at a time, with no fuel; and the first rule that a record breaks, its head's before its shape's.
 use mathlib.Core.Path.{_≡_, refl, _∙_}
 use mathlib.Core.Bool.{true}
-use mathlib.Core.List.{List, [], _∷_}
-use Prim.Native.Nat.{ℕ, zero, suc, _+_, _≤_, _<_}
-use lib.ListN.{length, getD, drop, drop-of-length-le}
-use lib.Seq.{drop-cons}
+use mathlib.Core.List.{List, []}
+use Prim.Native.Nat.{ℕ, _+_, _≤_, _<_}
+use native.Mathlib.Omega.{arith}
+use lib.ListN.{length, drop, length-drop, drop-of-length-le}
 use Rattle.format.specs.Order.{first}
-use Rattle.format.specs.Said.{Said, gives, fault}
-use Rattle.format.proofs.OrderLaws.{okAt, no-fault, no-fault-then, fault-first}
-use Rattle.rules.specs.Rules.{Taken, Counts, headRules, shapeRules, recordFault, finish, orOn, size, walkFrom}
+use Rattle.format.specs.Said.{gives, fault}
+use Rattle.format.proofs.OrderLaws.{okAt, no-fault}
+use Rattle.rules.specs.Rules.{Taken, Counts, headRules, shapeRules, recordFault, size, walkFrom}
+use Rattle.rules.proofs.FirstFault.{head-first, then-shape}
+use Rattle.rules.proofs.VerdictLaws.{fault-on, finish-gives, over-left}
 use Rattle.rules.proofs.WalkLaws.{next, walk-end, walk-record}
 use Rattle.pair.specs.Verdicts.{headFault}
 
@@ -17,22 +19,16 @@ use Rattle.pair.specs.Verdicts.{headFault}
 -- at the end of the .shp
 module _ (t : Taken) (s x : List ℕ) (at ix : ℕ) (c : Counts) (done : length s ≤ at) where
   pub left-over : ix < length x → walkFrom t (drop at s) (drop ix x) at c ≡ fault 17 (c .records + 1)
-  unfolding finish
-  left-over h = rw (drop-of-length-le s done, drop-cons x ix 0 h) (walk-end t (getD x ix 0 ∷ drop (suc ix) x) at c)
+  left-over h = rw (drop-of-length-le s done) (walk-end t (drop ix x) at c ∙ over-left (drop ix x) c (rw length-drop (omega arith)))
 
   pub all-behind : length x ≤ ix → walkFrom t (drop at s) (drop ix x) at c ≡ gives c
-  unfolding finish
-  all-behind h = rw (drop-of-length-le s done, drop-of-length-le x h) (walk-end t [] at c)
+  all-behind h = rw (drop-of-length-le s done, drop-of-length-le x h) (walk-end t [] at c ∙ finish-gives c)
 
 -- ---- a record
 
-pub on-fault : (r k : ℕ) (v : Said Counts) → (r ≡ 0 → ⊥) → orOn r k v ≡ fault r k
-on-fault zero k v h = absurd (h refl)
-on-fault (suc r) k v h = refl
-
 module _ (t : Taken) (l x : List ℕ) (at : ℕ) (c : Counts) (h : 0 < length l) where
   pub broken : (r : ℕ) → (r ≡ 0 → ⊥) → recordFault t l x at (c .records + 1) ≡ r → walkFrom t l x at c ≡ fault r (c .records + 1)
-  broken r n e = walk-record t l x at c h ∙ rw e (on-fault r (c .records + 1) _ n)
+  broken r n e = walk-record t l x at c h ∙ rw e (fault-on r (c .records + 1) _ (omega (arith, n)))
 
   pub met-all : recordFault t l x at (c .records + 1) ≡ 0 → walkFrom t l x at c ≡ walkFrom t (drop (size l) l) (drop 8 x) (at + size l) (next t l c)
   met-all e = walk-record t l x at c h ∙ rw e refl
@@ -41,12 +37,12 @@ module _ (t : Taken) (l x : List ℕ) (at : ℕ) (c : Counts) (h : 0 < length l)
 
 module _ (t : Taken) (l x : List ℕ) (at k : ℕ) where
   pub by-head : (r : ℕ) → headFault t l x at k ≡ r → (r ≡ 0 → ⊥) → recordFault t l x at k ≡ r
-  unfolding headFault recordFault
-  by-head r e n = fault-first (headRules t l x at k) (shapeRules t l) r e n
+  unfolding headFault
+  by-head r e n = head-first t l x at k r e n
 
   pub by-shape : headFault t l x at k ≡ 0 → recordFault t l x at k ≡ first (shapeRules t l) 0
-  unfolding headFault recordFault
-  by-shape e = no-fault-then (headRules t l x at k) tt e (shapeRules t l)
+  unfolding headFault
+  by-shape e = then-shape t l x at k e
 
   pub head-met : headFault t l x at k ≡ 0 → (i : ℕ) → okAt i (headRules t l x at k) ≡ true
   unfolding headFault

@@ -1,53 +1,21 @@
 -- What a head with no fault tells of the record, and the rules of its shape over its counts: with no parts the counts leave nothing to test.
-use mathlib.Core.Path.{_≡_, refl, sym, _∙_}
-use mathlib.Core.Bool.{Bool, true, false, cond, _&&_, _||_, and-true}
+use mathlib.Core.Path.{_≡_, refl, sym}
+use mathlib.Core.Bool.{Bool, true, false, cond, _&&_, and-true}
 use mathlib.Core.List.{List}
-use mathlib.Core.Logic.{_⊎_, inl, inr, ⊎-elim}
-use Prim.Native.Nat.{ℕ, _+_, _*_, _-_, _/_, _≤_}
+use Prim.Native.Nat.{ℕ, zero-le, _+_, _*_, _-_, _/_, _≤_}
 use native.Mathlib.Omega.{arith}
 use lib.Dec.{leb, eqb, lit≤}
 use lib.ListN.{length}
-use borrow.Author.Tests.{eqb-true}
 use Rattle.format.specs.declared.kinds.Kind.{Kind}
-use Rattle.format.specs.Lengths.{Form, nothing, onePoint, parts, fixedWords, pointWords, contentWords}
+use Rattle.format.specs.Lengths.{Form, nothing, onePoint, parts}
 use Rattle.format.specs.WellFormed.{hasRings, leastPoints}
-use Rattle.format.proofs.OrderLaws.{both-true}
-use Rattle.rules.specs.Rules.{Taken, littleAt, held, wordsOf, partsOf, pointsOf, finites, partsLong, ringsClosed, P13, P14, P15, P16}
+use Rattle.rules.specs.Rules.{Taken, littleAt, wordsOf, partsOf, pointsOf, finites, partsLong, ringsClosed, P13, P14, P15, P16}
+use Rattle.rules.proofs.HeadLaws.{Inside, told10, told11, room13, null-words}
+use Rattle.rules.proofs.Turns.{parts-done, rings-done, finites-done}
 use Rattle.pair.specs.Plans.{hasParts, pointsAlone}
 use Rattle.pair.specs.Verdicts.{headFault}
-use Rattle.pair.proofs.HeadLaws.{Inside, fits, least-words, as-parts, form-is, told10, told11}
+use Rattle.pair.proofs.HeadLaws.{form-is}
 use Rattle.pair.proofs.RecordLaws.{head-met}
-
-either : (a b : Bool) → (a || b) ≡ true → (a ≡ true) ⊎ (b ≡ true)
-either true b e = inl refl
-either false b e = inr e
-
--- ---- what P13 tells of the length
-
-fits-least : (k : Kind) (p n w : ℕ) → fits (record { kind = k; form = parts }) p n w ≡ true → 22 + 2 * p + 8 * n ≤ w
-unfolding contentWords
-fits-least k p n w e =
-    ⊎-elim
-    (λ q.
-    let h : w ≡ contentWords parts (k .z) false p n = eqb-true w _ q in
-    let g = least-words (k .z) false p n in
-    omega arith)
-    (λ q.
-    let h : w ≡ contentWords parts (k .z) (k .m) p n = eqb-true w _ q in
-    let g = least-words (k .z) (k .m) p n in
-    omega arith)
-    (either _ _ e)
-
-module _ (t : Taken) (l : List ℕ) (met : P13 t l ≡ true) where
-  parts-room : hasParts (t .form) ≡ true → 22 + 2 * littleAt 44 l + 8 * littleAt 48 l ≤ wordsOf l
-  parts-room h =
-      let f = both-true (held (littleAt 44 l) && held (littleAt 48 l)) (fits t (littleAt 44 l) (littleAt 48 l) (wordsOf l)) (sym (as-parts t l h) ∙ met) .1 in
-      let g : fits (record { kind = t .kind; form = parts }) (littleAt 44 l) (littleAt 48 l) (wordsOf l) ≡ true = rw (form-is t l h) at f in
-      fits-least (t .kind) (littleAt 44 l) (littleAt 48 l) (wordsOf l) g
-
-null-words : (k : Kind) (l : List ℕ) → P13 (record { kind = k; form = nothing }) l ≡ true → wordsOf l ≡ 2
-unfolding contentWords fixedWords pointWords
-null-words k l e = ⊎-elim (λ q. eqb-true (wordsOf l) 2 q) (λ q. eqb-true (wordsOf l) 2 q) (either (eqb (wordsOf l) 2) (eqb (wordsOf l) 2) e)
 
 -- ---- what a head with no fault tells
 
@@ -60,7 +28,7 @@ pub record Head (t : Taken) (l x : List ℕ) : Type 0 where
 pub head-told : (t : Taken) (l x : List ℕ) (at k : ℕ) → headFault t l x at k ≡ 0 → Head t l x
 head-told t l x at k e =
     let met = head-met t l x at k e in
-    record { inside = told10 l (met 1); entry = told11 l x at (met 2); sized = met 4; room = parts-room t l (met 4) }
+    record { inside = told10 l (met 1); entry = told11 l x at (met 2); sized = met 4; room = λ h. room13 t l (form-is (t .form) h) (met 4) }
 
 -- ---- the counts, and the rules of the shape over them
 
@@ -84,14 +52,12 @@ abbrev pub beginsOf : Bool → ℕ → ℕ → Bool
 beginsOf has p start = cond has (leb 1 p && eqb start 0) true
 
 of14 : (k : Kind) (f : Form) (l : List ℕ) → P14 (record { kind = k; form = f }) l ≡ (beginsOf (hasParts f) (partsOf f l) (littleAt 52 l) && partsLong (leastPoints k) (partsOf f l) 56 0 (pointsOf f l) l)
-unfolding partsLong
-of14 k nothing l = refl
-of14 k onePoint l = refl
+of14 k nothing l = sym (parts-done l 0 (leastPoints k) 56 0 0 zero-le)
+of14 k onePoint l = sym (parts-done l 1 (leastPoints k) 56 0 0 zero-le)
 of14 k parts l = refl
 
 of15 : (k : Kind) (f : Form) (l : List ℕ) (b : Bool) → hasRings k ≡ b → (b ≡ true → hasParts f ≡ true) → P15 (record { kind = k; form = f }) l ≡ ringsClosed (52 + 4 * partsOf f l) (cond b (partsOf f l) 0) 56 0 (pointsOf f l) l
-unfolding ringsClosed
-of15 k f l false e h = rw e
+of15 k f l false e h = rw (e, rings-done l (pointsOf f l) (52 + 4 * partsOf f l) 56 0 0 zero-le)
 of15 k nothing l true e h = absurd (let z : _≡_ {A = Bool} false true = h refl in let y : _≡_ {A = ℕ} 0 1 = cc in omega arith)
 of15 k onePoint l true e h = absurd (let z : _≡_ {A = Bool} false true = h refl in let y : _≡_ {A = ℕ} 0 1 = cc in omega arith)
 of15 k parts l true e h = rw e
@@ -99,9 +65,8 @@ of15 k parts l true e h = rw e
 of16 : (k : Kind) (f : Form) (l : List ℕ)
     → P13 (record { kind = k; form = f }) l ≡ true
     → P16 (record { kind = k; form = f }) l ≡ (finites (cond (hasParts f) 4 ((wordsOf l - 2) / 4)) 12 l && finites (cond (hasParts f) ((wordsOf l - 22 - 2 * partsOf f l) / 4) 0) (52 + 4 * partsOf f l) l)
-unfolding finites
-of16 k nothing l e = rw (null-words k l e)
-of16 k onePoint l e = sym (and-true (finites ((wordsOf l - 2) / 4) 12 l))
+of16 k nothing l e = rw (null-words k l e, finites-done l 12 0 zero-le, finites-done l 52 0 zero-le)
+of16 k onePoint l e = rw (finites-done l 52 0 zero-le) (sym (and-true (finites ((wordsOf l - 2) / 4) 12 l)))
 of16 k parts l e = refl
 
 module _ (t : Taken) (l : List ℕ) where

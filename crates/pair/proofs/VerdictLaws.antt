@@ -8,24 +8,24 @@ use lib.ListN.{length, take, drop}
 use borrow.Author.Tests.{leb-true}
 use Rattle.format.specs.Order.{first}
 use Rattle.format.specs.Said.{fault}
-use Rattle.format.proofs.OrderLaws.{no-fault-then, fault-first, no-fault}
+use Rattle.format.proofs.OrderLaws.{no-fault}
 use Rattle.rules.specs.Rules.{Taken, takenIn, headersRules, headersFault, walkFrom, none-yet, verdict}
+use Rattle.rules.proofs.FirstFault.{front-first, then-others}
+use Rattle.rules.proofs.VerdictLaws.{fault-on, verdict-is, verdict-walk}
 use Rattle.pair.specs.Verdicts.{frontFault, backFault}
-use Rattle.pair.proofs.RecordLaws.{on-fault}
 
 module _ (shp shx : List ℕ) where
   faulty : (r : ℕ) → headersFault shp shx ≡ r → (r ≡ 0 → ⊥) → fault r 0 ≡ verdict shp shx
-  unfolding verdict
-  faulty r e n = sym (rw e (on-fault r 0 _ n))
+  faulty r e n = sym (verdict-is shp shx ∙ rw e (fault-on r 0 _ (omega (arith, n))))
 
   pub by-front : (r : ℕ) → r ≡ frontFault shp shx → (r ≡ 0 → ⊥) → fault r 0 ≡ verdict shp shx
-  unfolding headersFault frontFault
-  by-front r e n = faulty r (fault-first (take 3 (headersRules shp shx)) (drop 3 (headersRules shp shx)) r (sym e) n) n
+  unfolding frontFault
+  by-front r e n = faulty r (front-first shp shx r (sym e) n) n
 
   module _ (front : 0 ≡ frontFault shp shx) where
     further : headersFault shp shx ≡ first (drop 3 (headersRules shp shx)) 0
-    unfolding headersFault frontFault
-    further = no-fault-then (take 3 (headersRules shp shx)) tt (sym front) (drop 3 (headersRules shp shx))
+    unfolding frontFault
+    further = then-others shp shx (sym front)
 
     pub both-long : (100 ≤ length shp) × (100 ≤ length shx)
     unfolding frontFault
@@ -45,5 +45,4 @@ module _ (shp shx : List ℕ) where
       by-back r e n = faulty r (last ∙ sym e) n
 
       pub by-records : 0 ≡ backFault shp shx → walkFrom t (drop 100 shp) (drop 100 shx) 100 none-yet ≡ verdict shp shx
-      unfolding verdict
-      by-records e = sym (rw (last ∙ sym e, is))
+      by-records e = sym (verdict-walk shp shx t (last ∙ sym e) is)

@@ -11,11 +11,13 @@ use lib.Seq.{drop-drop}
 use Rattle.format.specs.Order.{first}
 use Rattle.format.specs.Said.{Said, fault}
 use Rattle.format.specs.WellFormed.{hasRings, leastPoints}
+use Rattle.format.proofs.Equations.{least-is}
 use Rattle.rules.specs.Rules.{Taken, Counts, bigAt, littleAt, wordsOf, partsOf, pointsOf, finites, partsLong, ringsClosed, P14, P15, P16, shapeRules, recordFault, walkFrom}
+use Rattle.rules.proofs.PlaceLaws.{big-drop, little-drop, finites-drop, parts-drop, rings-drop}
+use Rattle.rules.proofs.Turns.{parts-done}
 use Rattle.pair.specs.declared.plans.Plan.{Plan}
 use Rattle.pair.specs.Plans.{hasParts, pointsAlone, planFor, takenFrom}
 use Rattle.pair.specs.Verdicts.{headFault}
-use Rattle.pair.proofs.PlaceLaws.{big-drop, little-drop, finites-drop, parts-drop, rings-drop}
 use Rattle.pair.proofs.RecordLaws.{broken, met-all, by-head, by-shape}
 use Rattle.pair.proofs.ShapeLaws.{Head, head-told, parts-of, points-of, at-most-one, beginsOf, shape14, shape15, shape16}
 
@@ -104,9 +106,8 @@ few-rings true p = le-refl p
 few-rings false p = zero-le
 
 pub long-rings : (b : Bool) (s : List ℕ) (n least at cur p : ℕ) → partsLong least p at cur n s ≡ true → partsLong least (cond b p 0) at cur n s ≡ true
-unfolding partsLong
 long-rings true s n least at cur p e = e
-long-rings false s n least at cur p e = refl
+long-rings false s n least at cur p e = parts-done s n least at cur 0 zero-le
 
 -- with parts, and without
 by-parts : (b : Bool) (a i j w p n : ℕ) → p ≡ cond b i 0 → n ≡ cond b j a → 2 ≤ w → a ≤ 1 → (b ≡ true → 22 + 2 * p + 8 * n ≤ w)
@@ -146,8 +147,8 @@ module _ {plan : Plan} {s x : List ℕ} {at ix k ps ns w p n : ℕ} {v : Said Co
   has-rings : plan .rings ≡ hasRings (kind-of .kind)
   has-rings = ap (λ (q : Plan). q .rings) (h .opened .is)
 
-  least-is : plan .least ≡ leastPoints (kind-of .kind)
-  least-is = ap (λ (q : Plan). q .least) (h .opened .is)
+  least-of : plan .least ≡ leastPoints (kind-of .kind)
+  least-of = ap (λ (q : Plan). q .least) (h .opened .is)
 
   pairs-are : at + (52 + 4 * p) ≡ at + 52 + 4 * p
   pairs-are = omega arith
@@ -165,11 +166,10 @@ module _ {plan : Plan} {s x : List ℕ} {at ix k ps ns w p n : ℕ} {v : Said Co
   few-alone = rw (ap (λ (q : Plan). q .points) (h .opened .is)) (at-most-one (kind-of .form))
 
   pub fit : Fit plan s x at ix w p n
-  unfolding leastPoints
   fit =
       let r = room (h .opened) w (h .we) in
       let q = by-parts (plan .parts) (plan .points) (littleAt (at + 44) s) (littleAt (at + 48) s) w p n (h .pe) (h .ne) (r .some) few-alone counts-room in
-      let l : plan .least ≡ cond (hasRings (kind-of .kind)) 4 2 = least-is in
+      let l : plan .least ≡ cond (hasRings (kind-of .kind)) 4 2 = least-of ∙ least-is (kind-of .kind) in
       record {
         held = r .held;
         within = r .within;
@@ -203,7 +203,7 @@ module _ {plan : Plan} {s x : List ℕ} {at ix k ps ns w p n : ℕ} {v : Said Co
   rule14 : P14 kind-of bytes ≡ (begins && long)
   rule14 =
       shape14 kind-of bytes
-      ∙ rw (← has-parts (h .opened), ← least-is, ← p-of, ← n-of, little-drop at s 52)
+      ∙ rw (← has-parts (h .opened), ← least-of, ← p-of, ← n-of, little-drop at s 52)
       (ap (λ (b : Bool). begins && b) (parts-drop at s (plan .least) p 56 0 n))
 
   rule15 : P15 kind-of bytes ≡ closed

@@ -2,7 +2,11 @@
 pub mod Ends
 pub mod FaultLaws
 pub mod FiniteLaws
+pub mod FirstFault
+pub mod HeadLaws
 pub mod HeaderRules
 pub mod Numbered
+pub mod PlaceLaws
+pub mod Turns
 pub mod VerdictLaws
 pub mod WalkLaws

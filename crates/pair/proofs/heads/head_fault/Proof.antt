@@ -8,10 +8,11 @@ use borrow.Author.Needs.{needs}
 use lib.ListN.{length, drop, length-drop}
 use borrow.Author.Tests.{eq-eqb, ne-eqb, not-true, not-false}
 use Rattle.rules.specs.Rules.{Taken, bigAt, littleAt, P9, P10}
+use Rattle.rules.proofs.HeadLaws.{told9, told10}
+use Rattle.rules.proofs.PlaceLaws.{big-drop, little-drop}
 use Rattle.pair.specs.Plans.{takenFrom}
 use Rattle.pair.specs.Verdicts.{headFault}
-use Rattle.pair.proofs.HeadLaws.{told9, told10, left, start, past, refused}
-use Rattle.pair.proofs.PlaceLaws.{big-drop, little-drop}
+use Rattle.pair.proofs.HeadLaws.{left, start, past, refused}
 use Rattle.pair.proofs.heads.head_fault.Statement.{statement}
 use Rattle.pair.proofs.heads.head_fault.Tie as tie
 

@@ -5,8 +5,8 @@ use Prim.Native.Nat.{_*_, _≤_}
 use lib.Dec.{eqb}
 use lib.ListN.{length, drop, length-drop}
 use Rattle.rules.specs.Rules.{bigAt}
-use Rattle.pair.proofs.HeadLaws.{none11, negative11, offset11, last11}
-use Rattle.pair.proofs.PlaceLaws.{big-drop, big-here}
+use Rattle.rules.proofs.HeadLaws.{none11, negative11, offset11, last11}
+use Rattle.rules.proofs.PlaceLaws.{big-drop, big-here}
 use Rattle.pair.proofs.heads.indexed.Statement.{statement}
 use Rattle.pair.proofs.heads.indexed.Tie as tie
 

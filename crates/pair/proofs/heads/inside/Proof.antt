@@ -3,8 +3,8 @@ use mathlib.Core.Path.{_≡_, sym, _∙_}
 use borrow.Author.Needs.{needs}
 use lib.ListN.{drop, length-drop}
 use Rattle.rules.specs.Rules.{wordsOf}
-use Rattle.pair.proofs.HeadLaws.{negative10, few10, last10}
-use Rattle.pair.proofs.PlaceLaws.{big-drop}
+use Rattle.rules.proofs.HeadLaws.{negative10, few10, last10}
+use Rattle.rules.proofs.PlaceLaws.{big-drop}
 use Rattle.pair.proofs.heads.inside.Statement.{statement}
 use Rattle.pair.proofs.heads.inside.Tie as tie
 

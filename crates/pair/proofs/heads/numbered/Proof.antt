@@ -2,8 +2,8 @@
 use mathlib.Core.Path.{sym, _∙_}
 use borrow.Author.Needs.{needs}
 use lib.ListN.{drop, length-drop}
-use Rattle.pair.proofs.HeadLaws.{short9, other9, last9}
-use Rattle.pair.proofs.PlaceLaws.{big-here}
+use Rattle.rules.proofs.HeadLaws.{short9, other9, last9}
+use Rattle.rules.proofs.PlaceLaws.{big-here}
 use Rattle.pair.proofs.heads.numbered.Statement.{statement}
 use Rattle.pair.proofs.heads.numbered.Tie as tie
 

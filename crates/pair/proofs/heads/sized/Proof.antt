@@ -1,6 +1,6 @@
 -- `pair::heads::sized` meets its contract: by whether the kind has parts, and the counts.
 use mathlib.Core.Path.{_≡_, sym, ap, _∙_}
-use mathlib.Core.Bool.{Bool, true, _||_}
+use mathlib.Core.Bool.{Bool, _||_}
 use mathlib.Core.List.{List}
 use Prim.Native.Nat.{ℕ, _+_, _≤_}
 use native.Mathlib.Omega.{arith}
@@ -8,12 +8,13 @@ use lib.Dec.{eqb}
 use borrow.Author.Needs.{needs}
 use lib.ListN.{length, drop}
 use borrow.Author.Tests.{not-true, not-false}
-use Rattle.format.specs.Lengths.{formulaWords}
+use Rattle.format.specs.Lengths.{parts, formulaWords}
 use Rattle.rules.specs.Rules.{wordsOf, littleAt}
+use Rattle.rules.proofs.HeadLaws.{few13, parts13, points13, last13}
+use Rattle.rules.proofs.PlaceLaws.{big-drop, little-drop}
 use Rattle.pair.specs.declared.plans.Plan.{Plan}
-use Rattle.pair.specs.Plans.{hasParts, takenFrom}
-use Rattle.pair.proofs.HeadLaws.{few-alone, plain13, few13, parts13, points13, last13}
-use Rattle.pair.proofs.PlaceLaws.{big-drop, little-drop}
+use Rattle.pair.specs.Plans.{takenFrom}
+use Rattle.pair.proofs.HeadLaws.{few-alone, form-is, plain13}
 use Rattle.pair.proofs.heads.sized.Statement.{statement}
 use Rattle.pair.proofs.heads.sized.Tie as tie
 
@@ -24,8 +25,8 @@ here c = drop (c .before .before .args .at) (c .before .before .args .shp .now)
 words-are : (c : tie.After-big) → wordsOf (here c) ≡ c .big .result
 words-are c = big-drop (c .before .before .args .at) (c .before .before .args .shp .now) 4 ∙ sym (c .big .ensures .value)
 
-parted : (c : tie.Else1) → hasParts (takenFrom (c .before .before .before .before .before .args .plan) .form) ≡ true
-parted c = sym (ap (λ (p : Plan). p .parts) (c .before .before .before .before .before .pre .0)) ∙ not-false _ (c .if1 .left)
+parted : (c : tie.Else1) → takenFrom (c .before .before .before .before .before .args .plan) .form ≡ parts
+parted c = form-is _ (sym (ap (λ (p : Plan). p .parts) (c .before .before .before .before .before .pre .0)) ∙ not-false _ (c .if1 .left))
 
 room : (c : tie.Else2) → c .before .before .before .before .before .before .args .at + 52 ≤ length (c .before .before .before .before .before .before .args .shp .now)
 room c = omega (arith, c .before .before .before .before .before .before .pre .1, c .before .before .before .before .big .ensures .value, c .if2 .left)

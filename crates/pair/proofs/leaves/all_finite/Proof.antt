@@ -4,7 +4,7 @@ use Prim.Native.Nat.{_+_, _*_}
 use native.Mathlib.Omega.{arith}
 use borrow.Author.Tests.{not-true, not-false}
 use Rattle.rules.specs.Rules.{finites}
-use Rattle.pair.proofs.Turns.{finites-go, finites-no, finites-done}
+use Rattle.rules.proofs.Turns.{finites-go, finites-no, finites-done}
 use Rattle.pair.proofs.leaves.all_finite.Statement.{statement}
 use Rattle.pair.proofs.leaves.all_finite.Tie as tie
 

@@ -1,7 +1,7 @@
 -- `pair::leaves::end_of` meets its contract: by whether parts follow.
 use mathlib.Core.Path.{_∙_, sym, refl}
 use borrow.Author.Needs.{needs}
-use Rattle.pair.proofs.Turns.{end-some}
+use Rattle.rules.proofs.Turns.{end-some}
 use Rattle.pair.proofs.leaves.end_of.Statement.{statement}
 use Rattle.pair.proofs.leaves.end_of.Tie as tie
 

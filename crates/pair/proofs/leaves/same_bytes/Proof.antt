@@ -4,7 +4,7 @@ use Prim.Native.Nat.{_+_}
 use native.Mathlib.Omega.{arith}
 use Rattle.format.specs.Bytes.{field}
 use Rattle.rules.specs.Rules.{sameBytes}
-use Rattle.pair.proofs.Turns.{same-go, same-no, same-done}
+use Rattle.rules.proofs.Turns.{same-go, same-no, same-done}
 use Rattle.pair.proofs.leaves.same_bytes.Statement.{statement}
 use Rattle.pair.proofs.leaves.same_bytes.Tie as tie
 

@@ -5,7 +5,7 @@ use native.Mathlib.Omega.{arith}
 use lib.ListN.{replicate}
 use Rattle.format.specs.Bytes.{field}
 use Rattle.rules.specs.Rules.{sameBytes}
-use Rattle.pair.proofs.Turns.{zero-go, zero-no, zero-done}
+use Rattle.rules.proofs.Turns.{zero-go, zero-no, zero-done}
 use Rattle.pair.proofs.leaves.zero_bytes.Statement.{statement}
 use Rattle.pair.proofs.leaves.zero_bytes.Tie as tie
 

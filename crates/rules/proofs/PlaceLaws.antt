@@ -3,26 +3,20 @@ use mathlib.Core.Path.{_≡_, refl, ap, ap₂, _∙_}
 use mathlib.Core.Bool.{Bool, _&&_}
 use mathlib.Core.List.{List}
 use Prim.Native.Nat.{ℕ, zero, suc, _+_, _*_, _-_}
-use native.Mathlib.Nat.{add-assoc}
+use native.Mathlib.Nat.{add-zero, add-assoc}
 use native.Mathlib.Omega.{arith}
 use lib.Dec.{leb}
 use lib.ListN.{drop}
-use lib.Seq.{drop-drop}
-use Rattle.format.specs.Bytes.{field}
 use Rattle.format.specs.Numbers.{finite}
+use Rattle.format.proofs.ByteLaws.{field-drop}
 use Rattle.rules.specs.Rules.{bigAt, littleAt, doubleAt, finites, endOf, partsLong, ringClosed, ringsClosed}
 
 module _ (at : ℕ) (s : List ℕ) where
-  field-drop : (w i : ℕ) → field w i (drop at s) ≡ field w (at + i) s
-  unfolding field
-  field-drop w i = rw drop-drop
-
   pub big-drop : (i : ℕ) → bigAt i (drop at s) ≡ bigAt (at + i) s
   big-drop i = rw field-drop
 
   pub big-here : bigAt 0 (drop at s) ≡ bigAt at s
-  unfolding field
-  big-here = refl
+  big-here = big-drop 0 ∙ rw add-zero
 
   pub little-drop : (i : ℕ) → littleAt i (drop at s) ≡ littleAt (at + i) s
   little-drop i = rw field-drop

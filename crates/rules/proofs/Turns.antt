@@ -1,25 +1,20 @@
--- One turn of each loop of the crate, in the loop's own terms: what is left to do before the turn is the turn and what is left after it.
+-- One turn of each rule that goes over bytes, doubles, parts or rings, in a loop's terms: what is left before the turn is the turn and what is left after it.
 use mathlib.Core.Path.{_≡_, refl}
 use mathlib.Core.Bool.{true, false}
-use mathlib.Core.List.{List, _∷_}
+use mathlib.Core.List.{List}
 use Prim.Native.Nat.{ℕ, zero, suc, _+_, _-_, _≤_, _<_}
 use native.Mathlib.Nat.{le-refl}
-use native.Mathlib.Numerals.{add-one}
 use native.Mathlib.Omega.{arith}
 use lib.Dec.{leb}
 use lib.ListN.{length, getD, replicate}
-use lib.Seq.{drop-cons}
 use borrow.Author.Tests.{eq-eqb, ne-eqb, le-leb, lt-leb, leb-true}
 use Rattle.format.specs.Bytes.{field}
 use Rattle.format.specs.Numbers.{finite}
+use Rattle.format.proofs.ByteLaws.{field-none, field-cons}
 use Rattle.format.proofs.OrderLaws.{both-true}
 use Rattle.rules.specs.Rules.{littleAt, doubleAt, sameBytes, finites, endOf, partsLong, ringClosed, ringsClosed}
 
 -- ---- bytes
-
-field-cons : (n i : ℕ) (s : List ℕ) → i < length s → field (suc n) i s ≡ getD s i 0 ∷ field n (i + 1) s
-unfolding field
-field-cons n i s h = rw (add-one, drop-cons s i 0)
 
 module _ (a b : List ℕ) (i : ℕ) where
   pub same-go : (r : ℕ) → 0 < r → i < length a → i < length b → getD a i 0 ≡ getD b i 0 → sameBytes (field (r - 1) (i + 1) a) (field (r - 1) (i + 1) b) ≡ sameBytes (field r i a) (field r i b)
@@ -35,8 +30,8 @@ module _ (a b : List ℕ) (i : ℕ) where
   same-no (suc r) h p q e = rw (field-cons r i a p, field-cons r i b q, ne-eqb (getD a i 0) (getD b i 0) e)
 
   pub same-done : (r : ℕ) → r ≤ 0 → sameBytes (field r i a) (field r i b) ≡ true
-  unfolding sameBytes field
-  same-done zero h = refl
+  unfolding sameBytes
+  same-done zero h = rw (field-none i a, field-none i b)
   same-done (suc r) h = absurd (omega arith)
 
 module _ (s : List ℕ) (i : ℕ) where
@@ -53,8 +48,8 @@ module _ (s : List ℕ) (i : ℕ) where
   zero-no (suc r) h p e = rw (field-cons r i s p, ne-eqb (getD s i 0) 0 e)
 
   pub zero-done : (r : ℕ) → r ≤ 0 → sameBytes (field r i s) (replicate r 0) ≡ true
-  unfolding sameBytes field
-  zero-done zero h = refl
+  unfolding sameBytes
+  zero-done zero h = rw (field-none i s)
   zero-done (suc r) h = absurd (omega arith)
 
 -- ---- doubles
