@@ -14,8 +14,9 @@ use lib.Seq.{drop-cons}
 use lib.Signed.{ltZ}
 use borrow.Author.Tests.{ltb-true, eq-eqb, eqb-true, ne-eqb}
 use Rattle.format.specs.declared.kinds.Kind.{Kind}
+use Rattle.format.specs.declared.kinds.Found.{Found}
 use Rattle.format.specs.declared.kinds.Found.the-variants.{Is, Unknown}
-use Rattle.format.specs.Kinds.{kinds, rowOf, kindAt, found, kindOf}
+use Rattle.format.specs.Kinds.{kinds, rowOf, kindAt, found, kindOf, isKind, known}
 use Rattle.format.proofs.OrderLaws.{both-true}
 
 -- with d for a row past the end: the search ends at row i, or goes on
@@ -68,6 +69,11 @@ found-some (some x) k e = cc
 pub found-none : (o : Option Kind) → found o ≡ Unknown → o ≡ none
 found-none none e = refl
 found-none (some x) e = cc
+
+-- whether the code is known, by what was found
+pub known-found : (z : ℤ) (r : Found) → r ≡ kindOf z → known z ≡ isKind r
+unfolding known
+known-found z r e = ap isKind (sym e)
 
 pub kindOf-neg : (z : ℤ) → ltZ z (pos 0) ≡ true → kindOf z ≡ Unknown
 unfolding kindOf
