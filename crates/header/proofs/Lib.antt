@@ -1,4 +1,5 @@
 -- Laws of this crate's definitions, and its theorems.
+pub mod EntriesBack
 pub mod EntryLaws
 pub mod ReadLaws
 pub mod RoundTrip
