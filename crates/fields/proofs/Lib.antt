@@ -1,1 +1,2 @@
+-- Laws of this crate's loops.
 mod Turns

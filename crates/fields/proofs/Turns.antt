@@ -1,37 +1,23 @@
 -- One turn of each loop of the crate, in the loop's own terms: what is left to do before the turn is the turn and what is left after it.
 use mathlib.Core.Path.{_≡_, sym, ap, _∙_}
-use mathlib.Core.List.{List, [], _∷_, _++_, flatten, append-nil, reverse-cons, reverse-append}
+use mathlib.Core.List.{List}
 use Prim.Native.Nat.{ℕ, suc, _+_, _*_, _-_, _/_, _%_, _^_, _≤_, _<_}
-use native.Mathlib.Nat.{mul-suc, add-zero, add-suc, suc-add, lt-of-lt-of-le}
+use native.Mathlib.Nat.{mul-suc, lt-of-lt-of-le}
 use native.Mathlib.Numerals.{add-one}
 use native.Mathlib.Omega.{arith}
 use lib.Arith.{digits-lt}
 use lib.Ieee.{Float}
 use lib.Pow.{pow-add, pow-mono}
-use lib.ListN.{length, getD, take, drop, set, length-drop, drop-of-length-le}
-use lib.Seq.{sets, sets-eq, set-comm, getD-drop, take-suc, drop-cons}
+use lib.ListN.{length, getD, drop, set}
+use lib.Seq.{sets, drop-cons}
 use Rattle.format.specs.Bytes.{le, be, leBytes, beBytes, field}
 use Rattle.format.specs.Numbers.{leF64, doublesAt, f64Le, f64sLe}
-use Rattle.format.proofs.ByteLaws.{length-beBytes}
+use Rattle.format.proofs.ByteLaws.{le-more, be-more, sets-be}
+use Rattle.format.proofs.Equations.{leBytes-suc, f64sLe-cons}
 use Rattle.format.proofs.LayoutLaws.{sets-append}
-use Rattle.format.proofs.NumberLaws.{length-f64Le}
+use Rattle.format.proofs.NumberLaws.{length-f64Le, doubles-on}
 
 -- ---- reading a number, the high digit first
-
-le-more : (s : List ℕ) (m j : ℕ) → j < length s → le (field (suc m) j s) ≡ getD s j 0 + 256 * le (field m (suc j) s)
-unfolding le field
-le-more s m j h = rw (drop-cons s j 0)
-
-be-snoc : (l : List ℕ) (b : ℕ) → be (l ++ b ∷ []) ≡ b + 256 * be l
-unfolding le be
-be-snoc l b = ap le (reverse-append l (b ∷ []))
-
-be-more : (s : List ℕ) (m j : ℕ) → j + m < length s → be (field (suc m) j s) ≡ getD s (j + m) 0 + 256 * be (field m j s)
-unfolding field
-be-more s m j h =
-    let p : m < length (drop j s) = simp length-drop (omega arith) in
-    ap be (take-suc (drop j s) m 0 p) ∙ be-snoc (take m (drop j s)) (getD (drop j s) m 0)
-    ∙ ap (λ (b : ℕ). b + 256 * be (take m (drop j s))) (getD-drop j s m 0)
 
 pub le-turn : (s : List ℕ) (k at i n b : ℕ) → 0 < i → i ≤ k → at + k ≤ length s → n ≡ le (field (k - i) (at + i) s) → b ≡ getD s (at + (i - 1)) 0 → n * 256 + b ≡ le (field (k - (i - 1)) (at + (i - 1)) s)
 le-turn s k at i n b p q r e f =
@@ -58,27 +44,11 @@ turn-lt m l e q r = rw e (more-lt m q r)
 
 -- ---- writing a number, the low byte first in time
 
-sets-snoc : (vs l : List ℕ) (i a : ℕ) → sets l i (vs ++ a ∷ []) ≡ sets (set l (i + length vs) a) i vs
-sets-snoc [] l i a = rw add-zero
-sets-snoc (v ∷ vs) l i a =
-    sets-snoc vs (set l i v) (suc i) a
-    ∙ ap (λ (x : List ℕ). sets x (suc i) vs)
-    (ap (λ (k : ℕ). set (set l i v) k a) (suc-add i (length vs) ∙ sym (add-suc i (length vs)))
-    ∙ set-comm l i (i + suc (length vs)) v a (omega arith))
-
-sets-be : (l : List ℕ) (n at x : ℕ) → sets l at (beBytes (suc n) x) ≡ sets (set l (at + n) (x % 256)) at (beBytes n (x / 256))
-unfolding beBytes leBytes
-sets-be l n at x =
-    ap (sets l at) (reverse-cons (x % 256) (leBytes n (x / 256)))
-    ∙ sets-snoc (beBytes n (x / 256)) l at (x % 256)
-    ∙ ap (λ (k : ℕ). sets (set l (at + k) (x % 256)) at (beBytes n (x / 256))) (length-beBytes n (x / 256))
-
 pub put-le-turn : (l : List ℕ) (k at i v : ℕ) → i < k → sets (set l (at + i) (v % 256)) (at + (i + 1)) (leBytes (k - (i + 1)) (v / 256)) ≡ sets l (at + i) (leBytes (k - i) v)
-unfolding leBytes
 put-le-turn l k at i v h =
     let a : k - i ≡ suc (k - (i + 1)) = omega arith in
     let b : at + (i + 1) ≡ suc (at + i) = omega arith in
-    rw (a, b)
+    rw (a, b, leBytes-suc)
 
 pub put-be-turn : (l : List ℕ) (at i v : ℕ) → 0 < i → sets (set l (at + (i - 1)) (v % 256)) at (beBytes (i - 1) (v / 256)) ≡ sets l at (beBytes i v)
 put-be-turn l at i v h =
@@ -87,22 +57,10 @@ put-be-turn l at i v h =
 
 -- ---- runs of doubles
 
--- a whole list stored over one as long
-pub sets-all : (vs l : List Float) → length vs ≡ length l → sets l 0 vs ≡ vs
-sets-all vs l e =
-    let h : 0 + length vs ≤ length l = omega arith in
-    let z : length l ≤ 0 + length vs = omega arith in
-    sets-eq vs l 0 h ∙ ap (λ (t : List Float). vs ++ t) (drop-of-length-le l z) ∙ append-nil vs
-
 pub read-turn : (out : List Float) (n at i : ℕ) (s : List ℕ) → i < n → sets (set out i (leF64 (at + 8 * i) s)) (i + 1) (doublesAt (n - (i + 1)) (at + 8 * (i + 1)) s) ≡ sets out i (doublesAt (n - i) (at + 8 * i) s)
-unfolding doublesAt
-read-turn out n at i s h =
-    let a : n - i ≡ suc (n - (i + 1)) = omega arith in
-    let b : at + 8 * (i + 1) ≡ at + 8 * i + 8 = omega arith in
-    rw (a, b, add-one)
+read-turn out n at i s h = rw (doubles-on n at i s h, add-one)
 
 pub write-turn : (out : List ℕ) (at i : ℕ) (xs : List Float) (d : Float) → i < length xs → sets (sets out (at + 8 * i) (f64Le (getD xs i d))) (at + 8 * (i + 1)) (f64sLe (drop (i + 1) xs)) ≡ sets out (at + 8 * i) (f64sLe (drop i xs))
-unfolding f64sLe flatten
 write-turn out at i xs d h =
     let e : at + 8 * (i + 1) ≡ at + 8 * i + length (f64Le (getD xs i d)) = omega (arith, length-f64Le (getD xs i d)) in
-    rw (drop-cons xs i d h, e, add-one) (sym (sets-append (f64Le (getD xs i d)) _ out (at + 8 * i)))
+    rw (drop-cons xs i d h, f64sLe-cons, e, add-one) (sym (sets-append (f64Le (getD xs i d)) _ out (at + 8 * i)))

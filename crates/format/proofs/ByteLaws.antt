@@ -1,15 +1,16 @@
 -- Laws of fields, and of numbers as bytes, over the width: reading undoes writing, and writing undoes reading.
 use mathlib.Core.Path.{_≡_, refl, sym, ap, _∙_}
-use mathlib.Core.List.{List, [], _∷_, reverse, reverseAux, reverse-reverse}
+use mathlib.Core.List.{List, [], _∷_, _++_, reverse, reverseAux, reverse-reverse, reverse-cons, reverse-append}
 use Prim.Native.Nat.{ℕ, zero, suc, _+_, _*_, _/_, _%_, _^_, _≤_, _<_}
 use native.Mathlib.Nat.{mul-suc}
 use native.Mathlib.Numerals.{add-one}
 use native.Mathlib.Omega.{arith}
 use lib.Dec.{lit<}
 use lib.Pow.{pow-add}
-use lib.ListN.{length, getD, take, drop, length-reverse, length-drop}
-use lib.Seq.{length-take-le, drop-cons, drop-drop}
+use lib.ListN.{length, getD, take, drop, length-reverse, length-drop, set}
+use lib.Seq.{length-take-le, drop-cons, drop-drop, sets, take-suc, getD-drop}
 use Rattle.format.specs.Bytes.{le, be, leBytes, beBytes, field}
+use Rattle.format.proofs.LayoutLaws.{sets-snoc}
 
 -- ---- a field, a byte at a time, and behind a place
 
@@ -35,6 +36,39 @@ length-leBytes (suc n) x = ap suc (length-leBytes n (x / 256))
 pub length-beBytes : (n x : ℕ) → length (beBytes n x) ≡ n
 unfolding beBytes
 length-beBytes n x = length-reverse (leBytes n x) ∙ length-leBytes n x
+
+-- ---- one byte more
+
+pub le-none : (at : ℕ) (s : List ℕ) → le (field 0 at s) ≡ 0
+unfolding le field
+le-none at s = refl
+
+pub be-none : (at : ℕ) (s : List ℕ) → be (field 0 at s) ≡ 0
+unfolding be le field
+be-none at s = refl
+
+pub le-more : (s : List ℕ) (m j : ℕ) → j < length s → le (field (suc m) j s) ≡ getD s j 0 + 256 * le (field m (suc j) s)
+unfolding le field
+le-more s m j h = rw (drop-cons s j 0)
+
+be-snoc : (l : List ℕ) (b : ℕ) → be (l ++ b ∷ []) ≡ b + 256 * be l
+unfolding le be
+be-snoc l b = ap le (reverse-append l (b ∷ []))
+
+pub be-more : (s : List ℕ) (m j : ℕ) → j + m < length s → be (field (suc m) j s) ≡ getD s (j + m) 0 + 256 * be (field m j s)
+unfolding field
+be-more s m j h =
+    let p : m < length (drop j s) = simp length-drop (omega arith) in
+    ap be (take-suc (drop j s) m 0 p) ∙ be-snoc (take m (drop j s)) (getD (drop j s) m 0)
+    ∙ ap (λ (b : ℕ). b + 256 * be (take m (drop j s))) (getD-drop j s m 0)
+
+-- the low byte goes in first, behind the others
+pub sets-be : (l : List ℕ) (n at x : ℕ) → sets l at (beBytes (suc n) x) ≡ sets (set l (at + n) (x % 256)) at (beBytes n (x / 256))
+unfolding beBytes leBytes
+sets-be l n at x =
+    ap (sets l at) (reverse-cons (x % 256) (leBytes n (x / 256)))
+    ∙ sets-snoc (beBytes n (x / 256)) l at (x % 256)
+    ∙ ap (λ (k : ℕ). sets (set l (at + k) (x % 256)) at (beBytes n (x / 256))) (length-beBytes n (x / 256))
 
 -- ---- what is written is read back, at every width
 

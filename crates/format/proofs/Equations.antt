@@ -42,6 +42,10 @@ pub leBytes-suc : (n x : ℕ) → leBytes (suc n) x ≡ x % 256 ∷ leBytes n (x
 unfolding leBytes
 leBytes-suc n x = refl
 
+pub beBytes-zero : (x : ℕ) → beBytes 0 x ≡ []
+unfolding beBytes leBytes
+beBytes-zero x = refl
+
 -- ---- numbers
 
 pub big-is : (n : ℕ) → big n ≡ beBytes 4 n

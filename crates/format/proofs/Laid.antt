@@ -46,10 +46,14 @@ parts-words true true p n = omega arith
 
 -- ---- runs
 
-points-run : (ps : List Point) → flatten (map pointBytes ps) ≡ run 8 (coordinates ps)
-unfolding flatten pointBytes double
-points-run [] = refl
-points-run (p ∷ ps) = rw (points-run ps, append-assoc)
+pub points-doubles : (ps : List Point) → flatten (map pointBytes ps) ≡ doubles (coordinates ps)
+unfolding flatten pointBytes doubles
+points-doubles [] = refl
+points-doubles (p ∷ ps) = rw (points-doubles ps, append-assoc)
+
+pub measure-doubles : (r : Measure) → measureBytes (some r) ≡ doubles (r .low ∷ r .high ∷ r .values)
+unfolding flatten doubles
+measure-doubles r = refl
 
 value-run : (o : Option ℕ) → valueBytes o ≡ run 8 (writeIf value o)
 unfolding flatten double
@@ -86,7 +90,7 @@ unfolding shapeBytes partsBytes boxBytes doubles double little partsDoubles
 parts-laid s =
     let n = length (flatten (s .parts)) in
     rw (
-      points-run (flatten (s .parts)),
+      points-doubles (flatten (s .parts)),
       measure-run n (s .z),
       measure-run n (s .m),
       run-append 8 (coordinates (flatten (s .parts))) (writeIf (measured n) (s .z) ++ writeIf (measured n) (s .m)),

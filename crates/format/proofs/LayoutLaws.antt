@@ -1,12 +1,12 @@
 -- Fields one after the other: each stands at the sum of the widths before it, and storing them in turn stores them all.
-use mathlib.Core.Path.{_≡_, refl, sym, ap, _∙_}
-use mathlib.Core.List.{List, [], _∷_, _++_, map, flatten}
+use mathlib.Core.Path.{_≡_, refl, sym, ap, ap₂, _∙_}
+use mathlib.Core.List.{List, [], _∷_, _++_, map, flatten, append-nil}
 use Prim.Native.Nat.{ℕ, zero, suc, _+_, _-_, _≤_, _<_}
 use native.Mathlib.Nat.{not-suc-le-zero, le-of-suc-le-suc, zero-add, add-zero, add-suc, suc-add}
 use native.Mathlib.Numerals.{add-one}
 use native.Mathlib.Omega.{arith}
-use lib.ListN.{length, getD, take, drop, set, length-append}
-use lib.Seq.{drop-cons, sets, take-at, drop-append-add, drop-drop, take-add, take-take, take-nil}
+use lib.ListN.{length, getD, take, drop, set, length-append, drop-of-length-le}
+use lib.Seq.{drop-cons, sets, sets-eq, set-comm, take-at, drop-append-add, drop-drop, take-add, take-take, take-nil}
 use Rattle.format.specs.Bytes.{field}
 use Rattle.format.specs.Shapes.{sum}
 
@@ -32,9 +32,31 @@ field-flatten (f ∷ fs) zero h = take-at f (flatten fs) (length f) refl
 field-flatten (f ∷ fs) (suc i) h =
     ap (take (getD (widths fs) i 0)) (drop-append-add f (flatten fs) (start (widths fs) i)) ∙ field-flatten fs i (le-of-suc-le-suc h)
 
+-- ---- stores
+
 pub sets-append {ℓ} : {A : Type ℓ} (a b l : List A) (i : ℕ) → sets l i (a ++ b) ≡ sets (sets l i a) (i + length a) b
 sets-append [] b l i = rw add-zero
 sets-append (x ∷ a) b l i = rw (add-suc, ← suc-add) (sets-append a b (set l i x) (suc i))
+
+-- bytes that are stored right behind others
+pub onto : (out l l′ a b : List ℕ) (at i : ℕ) → i ≡ at + length a → l ≡ sets out at a → l′ ≡ sets l i b → l′ ≡ sets out at (a ++ b)
+onto out l l′ a b at i p e f = f ∙ (ap₂ (λ (s : List ℕ) (k : ℕ). sets s k b) e p ∙ sym (sets-append a b out at))
+
+-- a whole list stored over one as long
+pub sets-all {ℓ} : {A : Type ℓ} (vs l : List A) → length vs ≡ length l → sets l 0 vs ≡ vs
+sets-all {A = A} vs l e =
+    let h : 0 + length vs ≤ length l = omega arith in
+    let z : length l ≤ 0 + length vs = omega arith in
+    sets-eq vs l 0 h ∙ ap (λ (t : List A). vs ++ t) (drop-of-length-le l z) ∙ append-nil vs
+
+-- the last one first
+pub sets-snoc : (vs l : List ℕ) (i a : ℕ) → sets l i (vs ++ a ∷ []) ≡ sets (set l (i + length vs) a) i vs
+sets-snoc [] l i a = rw add-zero
+sets-snoc (v ∷ vs) l i a =
+    sets-snoc vs (set l i v) (suc i) a
+    ∙ ap (λ (x : List ℕ). sets x (suc i) vs)
+    (ap (λ (k : ℕ). set (set l i v) k a) (suc-add i (length vs) ∙ sym (add-suc i (length vs)))
+    ∙ set-comm l i (i + suc (length vs)) v a (omega arith))
 
 -- ---- bytes cut into fields of given widths
 

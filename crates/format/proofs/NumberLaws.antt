@@ -1,18 +1,19 @@
 -- Laws of the three numbers of a shapefile: their widths, and that reading gives back what was written.
 use mathlib.Core.Path.{_≡_, refl, sym, ap, _∙_}
-use mathlib.Core.List.{List}
-use Prim.Native.Nat.{ℕ, zero, suc, _+_, _^_, _≤_, _<_}
+use mathlib.Core.List.{List, [], _∷_, _++_, map, flatten, append-assoc, map-map}
+use Prim.Native.Nat.{ℕ, zero, suc, _+_, _*_, _-_, _^_, _≤_, _<_}
+use native.Mathlib.Omega.{arith}
 use lib.Dec.{T}
 use lib.Ieee.{Float, binary64, ofBits, ofInt, toBits, fits}
 use lib.Ieee.Bits.{ofBits-toBits, toBits-lt, ofBits-fits}
 use lib.IntN.{ℤ, pos}
-use lib.ListN.{length, length-append}
+use lib.ListN.{length, getD, length-append}
 use mir.Syntax.{w32}
 use mir.Val.{SFits, toZ, ofZ}
 use mir.ValLaws.{toZ-ofZ, ofZ-toZ, ofZ-fits}
 use Rattle.format.specs.Bytes.{le, be, leBytes, beBytes, field}
-use Rattle.format.specs.Encoding.{twoBig}
-use Rattle.format.specs.Numbers.{big, little, double, beI32, leI32, leF64, doublesAt, i32Be, i32Le, f64Le, PlainNan}
+use Rattle.format.specs.Encoding.{doubles, twoBig}
+use Rattle.format.specs.Numbers.{big, little, double, beI32, leI32, leF64, doublesAt, i32Be, i32Le, f64Le, f64sLe, PlainNan}
 use Rattle.format.proofs.ByteLaws.{AllBytes, length-leBytes, length-beBytes, le-leBytes, be-beBytes, leBytes-field, beBytes-field, le-field-lt, be-field-lt}
 use Rattle.format.proofs.NanLaws.{bits-back, back-plain}
 
@@ -34,14 +35,63 @@ pub length-two : (a b : ℕ) → length (twoBig a b) ≡ 8
 unfolding twoBig
 length-two a b = simp (length-append, length-big)
 
+pub length-i32Be : (z : ℤ) → length (i32Be z) ≡ 4
+unfolding i32Be
+length-i32Be z = length-big (ofZ w32 z)
+
+pub length-i32Le : (z : ℤ) → length (i32Le z) ≡ 4
+unfolding i32Le
+length-i32Le z = length-little (ofZ w32 z)
+
 pub length-f64Le : (x : Float) → length (f64Le x) ≡ 8
 unfolding f64Le
 length-f64Le x = length-double (toBits binary64 x)
+
+pub length-f64sLe : (xs : List Float) → length (f64sLe xs) ≡ 8 * length xs
+unfolding f64sLe flatten
+length-f64sLe [] = refl
+length-f64sLe (x ∷ xs) = length-append (f64Le x) (flatten (map f64Le xs)) ∙ omega (arith, length-f64Le x, length-f64sLe xs)
 
 pub length-doublesAt : (n at : ℕ) (s : List ℕ) → length (doublesAt n at s) ≡ n
 unfolding doublesAt
 length-doublesAt zero at s = refl
 length-doublesAt (suc n) at s = ap suc (length-doublesAt n (at + 8) s)
+
+-- ---- runs of doubles, and two numbers
+
+pub f64sLe-append : (xs ys : List Float) → f64sLe (xs ++ ys) ≡ f64sLe xs ++ f64sLe ys
+unfolding f64sLe flatten
+f64sLe-append [] ys = refl
+f64sLe-append (x ∷ xs) ys = rw append-assoc (ap (λ (l : List ℕ). f64Le x ++ l) (f64sLe-append xs ys))
+
+-- by their bits
+pub doubles-bits : (xs : List Float) → doubles (map (toBits binary64) xs) ≡ f64sLe xs
+unfolding doubles f64sLe f64Le
+doubles-bits xs = ap flatten (map-map _ (toBits binary64) xs)
+
+-- double i, and those from i on
+pub doubles-at : (n at : ℕ) (s : List ℕ) (i : ℕ) (d : Float) → i < n → getD (doublesAt n at s) i d ≡ leF64 (at + 8 * i) s
+unfolding doublesAt
+doubles-at zero at s i d h = absurd (omega arith)
+doubles-at (suc n) at s zero d h = ap (λ (a : ℕ). leF64 a s) (omega arith)
+doubles-at (suc n) at s (suc i) d h = doubles-at n (at + 8) s i d (omega arith) ∙ ap (λ (a : ℕ). leF64 a s) (omega arith)
+
+pub doubles-on : (n at i : ℕ) (s : List ℕ) → i < n → doublesAt (n - i) (at + 8 * i) s ≡ leF64 (at + 8 * i) s ∷ doublesAt (n - (i + 1)) (at + 8 * (i + 1)) s
+unfolding doublesAt
+doubles-on n at i s h =
+    let a : n - i ≡ suc (n - (i + 1)) = omega arith in
+    let b : at + 8 * (i + 1) ≡ at + 8 * i + 8 = omega arith in
+    rw (a, b)
+
+pub doubles-end : (n at i : ℕ) (s : List ℕ) → n ≤ i → doublesAt (n - i) at s ≡ []
+unfolding doublesAt
+doubles-end n at i s h =
+    let z : n - i ≡ 0 = omega arith in
+    rw z
+
+pub two-i32 : (a b : ℤ) → twoBig (ofZ w32 a) (ofZ w32 b) ≡ i32Be a ++ i32Be b
+unfolding twoBig i32Be
+two-i32 a b = refl
 
 pub zero-bits : ofBits binary64 0 ≡ ofInt binary64 (pos 0)
 unfolding ofBits ofInt

@@ -1,6 +1,8 @@
 -- Laws of this crate's definitions, and its theorems.
+pub mod EntriesBack
 pub mod EntryLaws
 pub mod Numbered
 pub mod ReadLaws
 pub mod RoundTrip
 pub mod SaidLaws
+pub mod WriteLaws

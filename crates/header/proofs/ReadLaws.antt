@@ -3,16 +3,19 @@ use mathlib.Core.Path.{_≡_, refl, sym, _∙_}
 use mathlib.Core.Bool.{true, false}
 use mathlib.Core.List.{List}
 use Prim.Native.Nat.{ℕ, suc, _+_, _*_, _-_, _/_, _^_, _≤_, _<_}
+use native.Mathlib.Nat.{add-zero}
 use native.Mathlib.Omega.{arith}
 use lib.Dec.{lit<}
+use lib.Ieee.{Float}
 use lib.IntN.{ℤ, pos, negsuc}
-use lib.ListN.{length}
+use lib.ListN.{length, getD}
 use lib.Signed.{mag}
 use mir.Syntax.{w32}
 use mir.Val.{ofZ}
 use borrow.Author.Tests.{eq-eqb, ne-eqb}
-use Rattle.format.specs.Numbers.{beI32, leI32}
+use Rattle.format.specs.Numbers.{beI32, leI32, leF64, doublesAt}
 use Rattle.format.specs.Said.{Said, gives, short}
+use Rattle.format.proofs.NumberLaws.{doubles-at}
 use Rattle.format.proofs.OrderLaws.{rest, okAt, noAt, on, stop, fields-whole, fields-cut}
 use Rattle.header.specs.declared.bbox.BBoxZ.{BBoxZ}
 use Rattle.header.specs.declared.Header.{Header}
@@ -53,3 +56,11 @@ is9994-no (negsuc n) e = refl
 -- a header whose parts are those that the bytes hold
 pub made : (s : List ℕ) (w v k : ℤ) (b : BBoxZ) → w ≡ beI32 24 s → v ≡ leI32 28 s → k ≡ leI32 32 s → b ≡ boxAt 36 s → gives (record { «file_length» = record { 0 = w }; version = v; «shape_type» = k; bbox = b }) ≡ gives (headerIn s)
 made s w v k b e f g h = λ i. gives (record { «file_length» = record { 0 = e i }; version = f i; «shape_type» = g i; bbox = h i })
+
+-- a box whose doubles are the eight that stand there
+pub boxed : (at : ℕ) (s : List ℕ) (l : List Float) (d : Float)
+    → l ≡ doublesAt 8 at s
+    → record { xmin = getD l 0 d; ymin = getD l 1 d; xmax = getD l 2 d; ymax = getD l 3 d; zmin = getD l 4 d; zmax = getD l 5 d; mmin = getD l 6 d; mmax = getD l 7 d } ≡ boxAt at s
+boxed at s l d e =
+    let x : (i : ℕ) → i < 8 → getD (doublesAt 8 at s) i d ≡ leF64 (at + 8 * i) s = λ i. doubles-at 8 at s i d in
+    rw (e, x 0 (lit< tt), x 1 (lit< tt), x 2 (lit< tt), x 3 (lit< tt), x 4 (lit< tt), x 5 (lit< tt), x 6 (lit< tt), x 7 (lit< tt), add-zero)

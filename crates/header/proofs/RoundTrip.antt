@@ -9,62 +9,54 @@ use lib.IntN.{ℤ, pos, negsuc}
 use lib.Ieee.{Float, binary64, fits}
 use lib.ListN.{length, getD, take}
 use lib.Signed.{nonNeg}
-use mir.Syntax.{w32}
-use mir.Val.{ofZ}
 use borrow.Author.Tests.{leb-true, eqb-true}
 use Rattle.format.specs.Bytes.{le, field}
-use Rattle.format.specs.Encoding.{headerFields, headerBytes}
 use Rattle.format.specs.Kinds.{known}
-use Rattle.format.specs.Numbers.{beI32, leI32, leF64, i32Be, i32Le, f64Le, PlainNan}
+use Rattle.format.specs.Numbers.{beI32, leI32, leF64, i32Be, f64Le, PlainNan}
 use Rattle.format.specs.Said.{gives, wrongSize}
 use Rattle.format.specs.Shapes.{sum}
 use Rattle.format.proofs.ByteLaws.{AllBytes, all-bytes}
+use Rattle.format.proofs.Equations.{field-is}
 use Rattle.format.proofs.LayoutLaws.{widths, start, pieces, length-flatten, field-flatten, flatten-pieces, field-take}
-use Rattle.format.proofs.NumberLaws.{length-big, length-little, length-double, beI32-back, leI32-back, leF64-back, i32Be-of, i32Le-of, f64Le-of, f64Le-only}
+use Rattle.format.proofs.NumberLaws.{length-i32Be, length-i32Le, length-f64Le, beI32-back, leI32-back, leF64-back, i32Be-of, i32Le-of, f64Le-of, f64Le-only}
 use Rattle.format.proofs.OrderLaws.{passed, given}
 use Rattle.header.specs.declared.Header.{Header}
-use Rattle.header.specs.Box.{boxBits, boxAt}
+use Rattle.header.specs.Box.{boxAt}
 use Rattle.header.specs.Reading.{is9994, headerIn, headerTests, headerOf}
 use Rattle.header.specs.RoundTrip.{Typed, ReadsBack, Plain, WritesBack}
 use Rattle.header.specs.Writing.{bytesOf}
+use Rattle.header.proofs.WriteLaws.{fieldsOf, bytes-are}
 
--- ---- the fields of a header, and where they stand
-
-abbrev fieldsOf : Header → List (List ℕ)
-fieldsOf h = headerFields (ofZ w32 (h .«file_length» .0)) (ofZ w32 (h .version)) (ofZ w32 (h .«shape_type»)) (boxBits (h .bbox))
+-- ---- where the fields of a header stand
 
 abbrev ws : List ℕ
 ws = 4 ∷ 20 ∷ 4 ∷ 4 ∷ 4 ∷ 8 ∷ 8 ∷ 8 ∷ 8 ∷ 8 ∷ 8 ∷ 8 ∷ 8 ∷ []
 
 widths-are : (h : Header) → widths (fieldsOf h) ≡ ws
-widths-are h = simp (length-big, length-little, length-double)
+widths-are h = simp (length-i32Be, length-i32Le, length-f64Le)
 
 length-bytesOf : (h : Header) → length (bytesOf h) ≡ 100
-unfolding bytesOf headerBytes
-length-bytesOf h = length-flatten (fieldsOf h) ∙ ap sum (widths-are h)
+length-bytesOf h = ap length (bytes-are h) ∙ (length-flatten (fieldsOf h) ∙ ap sum (widths-are h))
 
 -- field i stands where the widths before it end
 at : (h : Header) (i : ℕ) → i < 13 → field (getD ws i 0) (start ws i) (bytesOf h) ≡ getD (fieldsOf h) i []
-unfolding bytesOf headerBytes
-at h i p = ap (λ (v : List ℕ). field (getD v i 0) (start v i) (flatten (fieldsOf h))) (sym (widths-are h)) ∙ field-flatten (fieldsOf h) i p
+at h i p =
+    ap (field (getD ws i 0) (start ws i)) (bytes-are h)
+    ∙ (ap (λ (v : List ℕ). field (getD v i 0) (start v i) (flatten (fieldsOf h))) (sym (widths-are h)) ∙ field-flatten (fieldsOf h) i p)
 
 -- ---- reading what was written
 
 module _ (h : Header) (g : Typed h) where
   code : beI32 0 (bytesOf h) ≡ pos 9994
-  unfolding i32Be
   code = beI32-back (pos 9994) (record { sfits = lit< tt }) 0 (bytesOf h) (at h 0 (lit< tt))
 
   words : beI32 24 (bytesOf h) ≡ h .«file_length» .0
-  unfolding i32Be
   words = beI32-back (h .«file_length» .0) (g .words) 24 (bytesOf h) (at h 2 (lit< tt))
 
   version : leI32 28 (bytesOf h) ≡ h .version
-  unfolding i32Le
   version = leI32-back (h .version) (g .version) 28 (bytesOf h) (at h 3 (lit< tt))
 
   kind : leI32 32 (bytesOf h) ≡ h .«shape_type»
-  unfolding i32Le
   kind = leI32-back (h .«shape_type») (g .kind) 32 (bytesOf h) (at h 4 (lit< tt))
 
   -- the eight doubles: field i, where i is 5 and more
@@ -72,7 +64,6 @@ module _ (h : Header) (g : Typed h) where
   double i x p w f e = leF64-back x f (start ws i) (bytesOf h) (ap (λ (n : ℕ). field n (start ws i) (bytesOf h)) (sym w) ∙ at h i p ∙ e)
 
   box-back : boxAt 36 (bytesOf h) ≡ h .bbox
-  unfolding f64Le
   box-back =
       rw (
         double 5 (h .bbox .xmin) (lit< tt) refl (g .bbox .xmin) refl,
@@ -136,7 +127,6 @@ module _ (s : List ℕ) (b : AllBytes s) (h : Header) (e : headerOf s ≡ gives 
     double-field i k = f64Le-of (36 + 8 * i) s b (omega (arith, long)) (p .doubles i k)
 
     fields-same : fieldsOf (headerIn s) ≡ pieces ws 0 s
-    unfolding i32Be i32Le f64Le
     fields-same =
         λ i.
         code-field i
@@ -155,8 +145,7 @@ module _ (s : List ℕ) (b : AllBytes s) (h : Header) (e : headerOf s ≡ gives 
         ∷ []
 
     written : bytesOf h ≡ take 100 s
-    unfolding bytesOf headerBytes field
-    written = ap bytesOf (sym held) ∙ (ap flatten fields-same ∙ flatten-pieces ws 0 s)
+    written = ap bytesOf (sym held) ∙ (bytes-are (headerIn s) ∙ (ap flatten fields-same ∙ (flatten-pieces ws 0 s ∙ field-is 100 0 s)))
 
   -- and where the bytes come back, each field is as it was
   module _ (w : bytesOf h ≡ take 100 s) where
@@ -170,7 +159,6 @@ module _ (s : List ℕ) (b : AllBytes s) (h : Header) (e : headerOf s ≡ gives 
     plain-at i k e = f64Le-only (36 + 8 * i) s b (omega (arith, long)) e
 
     plain : Plain s
-    unfolding f64Le
     plain =
         record {
           unused = sym (back-at 1 (lit< tt) (lit≤ tt));

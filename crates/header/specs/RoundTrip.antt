@@ -1,4 +1,4 @@
--- What is proved of reading and writing headers together: the two statements, whose proofs stand in proofs/RoundTrip.antt.
+-- What is proved of reading and writing together, of headers and of entries; the proofs stand in proofs/RoundTrip.antt and EntriesBack.antt.
 use mathlib.Core.Path.{_≡_}
 use mathlib.Core.Bool.{true, false}
 use mathlib.Core.List.{List}
@@ -16,6 +16,9 @@ use Rattle.format.specs.Numbers.{PlainNan}
 use Rattle.format.specs.Said.{gives, wrongSize}
 use Rattle.header.specs.declared.bbox.BBoxZ.{BBoxZ}
 use Rattle.header.specs.declared.Header.{Header}
+use Rattle.header.specs.declared.entries.RecordHeader.{RecordHeader}
+use Rattle.header.specs.declared.entries.ShapeIndex.{ShapeIndex}
+use Rattle.header.specs.Entries.{twoOf, recordHeader, shapeIndex, recordHeaderBytes, indexEntryBytes}
 use Rattle.header.specs.Reading.{headerOf}
 use Rattle.header.specs.Writing.{bytesOf}
 
@@ -50,3 +53,10 @@ pub record Plain (s : List ℕ) : Type 0 where
 -- Writing what was read from bytes gives back the first hundred of them exactly where they are plain.
 abbrev pub WritesBack : Type 0
 WritesBack = (s : List ℕ) (h : Header) → ((i : ℕ) → getD s i 0 < 256) → headerOf s ≡ gives h → (bytesOf h ≡ take 100 s) ↔ Plain s
+
+-- A record's header and an index entry come back as they were written, and are written as they stood in the first eight of the bytes.
+pub record EntriesBack : Type 0 where
+  pub record-back : (h : RecordHeader) → SFits w32 (h .«record_number») → SFits w32 (h .«content_length» .0) → twoOf recordHeader (recordHeaderBytes h) ≡ gives h
+  pub record-written : (s : List ℕ) (h : RecordHeader) → ((i : ℕ) → getD s i 0 < 256) → twoOf recordHeader s ≡ gives h → recordHeaderBytes h ≡ take 8 s
+  pub entry-back : (e : ShapeIndex) → SFits w32 (e .offset .0) → SFits w32 (e .«content_length» .0) → twoOf shapeIndex (indexEntryBytes e) ≡ gives e
+  pub entry-written : (s : List ℕ) (e : ShapeIndex) → ((i : ℕ) → getD s i 0 < 256) → twoOf shapeIndex s ≡ gives e → indexEntryBytes e ≡ take 8 s

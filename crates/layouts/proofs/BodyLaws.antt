@@ -1,27 +1,25 @@
 -- Laws of a body's bytes: they are the tables' fields in turn, storing the fields in turn stores them, and how many bytes they are.
-use mathlib.Core.Path.{_≡_, refl, sym, ap, ap₂, _∙_}
+use mathlib.Core.Path.{_≡_, refl, sym, ap, _∙_}
 use mathlib.Core.Bool.{Bool, true, false, cond}
-use mathlib.Core.List.{List, [], _∷_, _++_, flatten, append-assoc}
+use mathlib.Core.List.{List, [], _∷_, _++_, append-assoc}
 use Prim.Native.Nat.{ℕ, _+_, _*_, _≤_}
 use native.Mathlib.Omega.{arith}
 use lib.Ieee.{Float}
 use lib.ListN.{length, length-append}
 use lib.Seq.{sets}
-use Rattle.format.specs.Encoding.{doubles, boxBytes, measureBytes, partsBytes}
-use Rattle.format.specs.Lengths.{contentWords, fixedWords, pointWords}
-use Rattle.format.specs.Numbers.{little, f64Le, f64sLe}
+use Rattle.format.specs.Bytes.{leBytes}
+use Rattle.format.specs.Encoding.{measureBytes, partsBytes}
+use Rattle.format.specs.Numbers.{little, f64sLe}
 use Rattle.format.specs.Shapes.{sum}
-use Rattle.format.proofs.LayoutLaws.{sets-append}
-use Rattle.format.proofs.NumberLaws.{length-little}
+use Rattle.format.proofs.Equations.{little-is, boxBytes-is, partsBytes-is}
+use Rattle.format.proofs.Laid.{measure-doubles, parts-words}
+use Rattle.format.proofs.LayoutLaws.{onto}
+use Rattle.format.proofs.NumberLaws.{length-little, length-f64sLe, f64sLe-append, doubles-bits}
 use Rattle.header.specs.declared.bbox.BBoxZ.{BBoxZ}
 use Rattle.layouts.specs.Answers.{bodySize}
 use Rattle.layouts.specs.Steps.{measureSize, startsBytes, corners, frontBytes, Agreed}
 use Rattle.layouts.specs.Tables.{pointsOf, measureOf, partsOf}
-use Rattle.layouts.proofs.TableLaws.{length-points, points-bytes, split-length, split-whole, split-starts, doubles-bytes, length-f64sLe, length-starts}
-
--- bytes that are stored right behind others
-onto : (out l l′ a b : List ℕ) (at i : ℕ) → i ≡ at + length a → l ≡ sets out at a → l′ ≡ sets l i b → l′ ≡ sets out at (a ++ b)
-onto out l l′ a b at i p e f = f ∙ (ap₂ (λ (s : List ℕ) (k : ℕ). sets s k b) e p ∙ sym (sets-append a b out at))
+use Rattle.layouts.proofs.TableLaws.{length-points, points-bytes, split-length, split-whole, split-starts, length-starts}
 
 -- ---- box, counts and starts
 
@@ -30,13 +28,13 @@ module _ (b : BBoxZ) (counts : List ℕ) (n : ℕ) where
   unfolding frontBytes
   length-front = simp (length-append, length-little, length-f64sLe, length-starts) (omega arith)
 
-  pub front-stored : (out l1 l2 l3 l4 : List ℕ) → l1 ≡ sets out 0 (f64sLe (corners b)) → l2 ≡ sets l1 32 (little (length counts)) → l3 ≡ sets l2 36 (little n) → l4 ≡ sets l3 40 (startsBytes 0 counts) → l4 ≡ sets out 0 (frontBytes b counts n)
+  pub front-stored : (out l1 l2 l3 l4 : List ℕ) → l1 ≡ sets out 0 (f64sLe (corners b)) → l2 ≡ sets l1 32 (leBytes 4 (length counts)) → l3 ≡ sets l2 36 (leBytes 4 n) → l4 ≡ sets l3 40 (startsBytes 0 counts) → l4 ≡ sets out 0 (frontBytes b counts n)
   unfolding frontBytes
   front-stored out l1 l2 l3 l4 e1 e2 e3 e4 =
       let a = f64sLe (corners b) in
       let p = little (length counts) in
-      let s2 = onto out l1 l2 a p 0 32 (simp length-f64sLe) e1 e2 in
-      let s3 = onto out l2 l3 (a ++ p) (little n) 0 36 (simp (length-append, length-f64sLe, length-little)) s2 e3 in
+      let s2 = onto out l1 l2 a p 0 32 (simp length-f64sLe) e1 (rw little-is e2) in
+      let s3 = onto out l2 l3 (a ++ p) (little n) 0 36 (simp (length-append, length-f64sLe, length-little)) s2 (rw little-is e3) in
       let s4 = onto out l3 l4 (a ++ p ++ little n) (startsBytes 0 counts) 0 40 (simp (length-append, length-f64sLe, length-little)) s3 e4 in
       let e : a ++ p ++ little n ++ startsBytes 0 counts ≡ frontBytes b counts n = simp append-assoc in
       s4 ∙ ap (sets out 0) e
@@ -48,8 +46,7 @@ run flag low high values = measureBytes (measureOf flag low high values)
 
 module _ (low high : Float) (values : List Float) where
   measure-is : run true low high values ≡ f64sLe (low ∷ high ∷ []) ++ f64sLe values
-  unfolding f64sLe f64Le flatten
-  measure-is = rw doubles-bytes (simp append-assoc)
+  measure-is = measure-doubles _ ∙ (doubles-bits (low ∷ high ∷ values) ∙ f64sLe-append (low ∷ high ∷ []) values)
 
   pub measure-stored : (out l1 l2 : List ℕ) (at : ℕ) → l1 ≡ sets out at (f64sLe (low ∷ high ∷ [])) → l2 ≡ sets l1 (at + 16) (f64sLe values) → l2 ≡ sets out at (run true low high values)
   measure-stored out l1 l2 at e1 e2 =
@@ -62,11 +59,11 @@ module _ (low high : Float) (values : List Float) where
 -- ---- the whole body
 
 pub size-is : (z m : Bool) (p n : ℕ) → 40 + 4 * p + 16 * n + measureSize z n + measureSize m n ≡ bodySize z m p n
-unfolding bodySize contentWords fixedWords pointWords
-size-is true true p n = omega arith
-size-is true false p n = omega arith
-size-is false true p n = omega arith
-size-is false false p n = omega arith
+unfolding bodySize
+size-is true true p n = omega (arith, parts-words true true p n)
+size-is true false p n = omega (arith, parts-words true false p n)
+size-is false true p n = omega (arith, parts-words false true p n)
+size-is false false p n = omega (arith, parts-words false false p n)
 
 pub size-most : (flag : Bool) (n : ℕ) → measureSize flag n ≤ 16 + 8 * n
 size-most true n = omega arith
@@ -89,9 +86,12 @@ module _ (z m : Bool) (b : BBoxZ) (counts : List ℕ) (xy zs ms : List Float) wh
     points = omega (arith, h .xy-has, length-points xy)
 
     pub body-is : partsBytes (partsOf z m b counts xy zs ms) ≡ frontBytes b counts (sum counts) ++ (f64sLe xy ++ (zRun ++ mRun))
-    unfolding partsBytes partsOf boxBytes doubles f64sLe f64Le frontBytes
+    unfolding partsOf frontBytes
     body-is =
         rw (
+          partsBytes-is,
+          boxBytes-is,
+          doubles-bits (corners b),
           split-length counts (pointsOf xy),
           split-whole counts (pointsOf xy) points,
           split-starts counts (pointsOf xy) 0 points,

@@ -1,7 +1,7 @@
 -- Laws of the shape that tables describe: where the counts sum to the points, its bytes are those of the tables, one after the other.
 use mathlib.Core.Path.{_≡_, refl, ap, _∙_}
 use mathlib.Core.Bool.{Bool, true, cond, _&&_}
-use mathlib.Core.List.{List, [], _∷_, _++_, map, flatten, append-assoc, map-map}
+use mathlib.Core.List.{List, [], _∷_, _++_, map, flatten}
 use Prim.Native.Nat.{ℕ, suc, _+_, _*_, _/_, _%_, _≤_}
 use native.Mathlib.Omega.{arith}
 use lib.Dec.{eqb}
@@ -10,9 +10,12 @@ use lib.ListN.{length, take, drop, length-append, length-drop, take-append-drop}
 use lib.Seq.{length-take-le}
 use borrow.Author.Tests.{eqb-true}
 use Rattle.format.specs.Encoding.{doubles, pointBytes, startsFrom}
-use Rattle.format.specs.Numbers.{little, f64Le, f64sLe}
+use Rattle.format.specs.Numbers.{little, f64sLe}
 use Rattle.format.specs.Shapes.{Point, sum}
-use Rattle.format.proofs.NumberLaws.{length-little, length-f64Le}
+use Rattle.format.specs.WellFormed.{coordinates}
+use Rattle.format.proofs.Equations.{startsFrom-nil, startsFrom-cons}
+use Rattle.format.proofs.Laid.{points-doubles}
+use Rattle.format.proofs.NumberLaws.{length-little, doubles-bits}
 use Rattle.format.proofs.OrderLaws.{both-true}
 use Rattle.layouts.specs.Steps.{startsBytes, Agreed}
 use Rattle.layouts.specs.Tables.{bits, pointsOf, splitBy}
@@ -36,11 +39,13 @@ length-points [] = refl
 length-points (x ∷ []) = refl
 length-points (x ∷ y ∷ xy) = omega (arith, length-points xy)
 
+points-are : (xy : List Float) → length xy % 2 ≡ 0 → coordinates (pointsOf xy) ≡ map bits xy
+points-are [] e = refl
+points-are (x ∷ []) e = absurd (omega arith)
+points-are (x ∷ y ∷ xy) e = ap (λ (l : List ℕ). bits x ∷ bits y ∷ l) (points-are xy (omega arith))
+
 pub points-bytes : (xy : List Float) → length xy % 2 ≡ 0 → flatten (map pointBytes (pointsOf xy)) ≡ f64sLe xy
-unfolding f64sLe f64Le pointBytes flatten
-points-bytes [] e = refl
-points-bytes (x ∷ []) e = absurd (omega arith)
-points-bytes (x ∷ y ∷ xy) e = rw append-assoc (ap (λ (l : List ℕ). f64Le x ++ (f64Le y ++ l)) (points-bytes xy (omega arith)))
+points-bytes xy e = points-doubles (pointsOf xy) ∙ (ap doubles (points-are xy e) ∙ doubles-bits xy)
 
 -- ---- parts
 
@@ -60,22 +65,11 @@ split-whole (n ∷ ns) ps e =
     ap (λ (l : List Point). take n ps ++ l) (split-whole ns (drop n ps) (rest-sum n (sum ns) ps e)) ∙ take-append-drop n ps
 
 pub split-starts : (counts : List ℕ) (ps : List Point) (a : ℕ) → sum counts ≡ length ps → flatten (map little (startsFrom a (splitBy counts ps))) ≡ startsBytes a counts
-unfolding splitBy startsFrom startsBytes flatten
-split-starts [] ps a e = refl
+unfolding splitBy startsBytes flatten
+split-starts [] ps a e = rw startsFrom-nil
 split-starts (n ∷ ns) ps a e =
     let k : n ≤ length ps = omega arith in
-    rw (length-take-le n ps k) (ap (λ (l : List ℕ). little a ++ l) (split-starts ns (drop n ps) (a + n) (rest-sum n (sum ns) ps e)))
-
--- ---- runs of doubles and starts
-
-pub doubles-bytes : (xs : List Float) → doubles (map bits xs) ≡ f64sLe xs
-unfolding doubles f64sLe f64Le
-doubles-bytes xs = ap flatten (map-map _ bits xs)
-
-pub length-f64sLe : (xs : List Float) → length (f64sLe xs) ≡ 8 * length xs
-unfolding f64sLe flatten
-length-f64sLe [] = refl
-length-f64sLe (x ∷ xs) = length-append (f64Le x) (flatten (map f64Le xs)) ∙ omega (arith, length-f64Le x, length-f64sLe xs)
+    rw (startsFrom-cons, length-take-le n ps k) (ap (λ (l : List ℕ). little a ++ l) (split-starts ns (drop n ps) (a + n) (rest-sum n (sum ns) ps e)))
 
 pub length-starts : (counts : List ℕ) (a : ℕ) → length (startsBytes a counts) ≡ 4 * length counts
 unfolding startsBytes

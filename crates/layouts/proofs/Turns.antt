@@ -9,8 +9,10 @@ use lib.Dec.{eqb}
 use lib.ListN.{length, getD, drop}
 use lib.Seq.{sets, drop-cons}
 use borrow.Author.Tests.{eq-eqb, ne-eqb, eqb-true, eqb-false}
+use Rattle.format.specs.Bytes.{leBytes}
 use Rattle.format.specs.Numbers.{little}
 use Rattle.format.specs.Shapes.{sum}
+use Rattle.format.proofs.Equations.{little-is}
 use Rattle.format.proofs.LayoutLaws.{sets-append, sum-drop}
 use Rattle.format.proofs.NumberLaws.{length-little}
 use Rattle.layouts.specs.Steps.{startsBytes}
@@ -37,8 +39,8 @@ down-past counts left i h k =
 
 -- ---- starts that run on
 
-pub starts-turn : (out : List ℕ) (at i a : ℕ) (counts : List ℕ) → i < length counts → sets (sets out (at + 4 * i) (little a)) (at + 4 * (i + 1)) (startsBytes (a + getD counts i 0) (drop (i + 1) counts)) ≡ sets out (at + 4 * i) (startsBytes a (drop i counts))
+pub starts-turn : (out : List ℕ) (at i a : ℕ) (counts : List ℕ) → i < length counts → sets (sets out (at + 4 * i) (leBytes 4 a)) (at + 4 * (i + 1)) (startsBytes (a + getD counts i 0) (drop (i + 1) counts)) ≡ sets out (at + 4 * i) (startsBytes a (drop i counts))
 unfolding startsBytes
 starts-turn out at i a counts h =
     let e : at + 4 * (i + 1) ≡ at + 4 * i + length (little a) = omega (arith, length-little a) in
-    rw (drop-cons counts i 0 h, e, add-one) (sym (sets-append (little a) _ out (at + 4 * i)))
+    rw (drop-cons counts i 0 h, e, add-one, ← little-is a) (sym (sets-append (little a) _ out (at + 4 * i)))

@@ -1,7 +1,7 @@
 -- Laws of storing: one turn of each loop that stores, and a part of a store that has come back.
 use mathlib.Core.Path.{_≡_, refl, sym, _∙_}
 use mathlib.Core.List.{List, _++_, map}
-use Prim.Native.Nat.{ℕ, suc, _+_, _*_, _-_, _^_, _≤_, _<_}
+use Prim.Native.Nat.{ℕ, _+_, _*_, _-_, _^_, _≤_, _<_}
 use native.Mathlib.Nat.{zero-add, sub-zero}
 use native.Mathlib.Numerals.{add-one}
 use native.Mathlib.Omega.{arith}
@@ -10,7 +10,7 @@ use lib.IntN.{ℤ, negsuc}
 use lib.ListN.{length, take, drop, set}
 use lib.Seq.{sets, sets-eq, length-take-le}
 use Rattle.format.specs.Numbers.{leF64, doublesAt}
-use Rattle.format.proofs.NumberLaws.{length-doublesAt}
+use Rattle.format.proofs.NumberLaws.{length-doublesAt, doubles-on, doubles-end}
 use Rattle.multipart.specs.Body.{noData, raised}
 use Rattle.multipart.specs.Parts.{countOf}
 use Rattle.multipart.proofs.PartLaws.{differencesFrom, differenceAt, one-more, no-more}
@@ -32,17 +32,10 @@ unfolding noData ofBits ofInt
 no-data = refl
 
 pub raised-turn : (ms : List Float) (n at i : ℕ) (s : List ℕ) → i < n → sets (set ms i (raised (leF64 (at + 8 * i) s))) (i + 1) (map raised (doublesAt (n - (i + 1)) (at + 8 * (i + 1)) s)) ≡ sets ms i (map raised (doublesAt (n - i) (at + 8 * i) s))
-unfolding doublesAt
-raised-turn ms n at i s h =
-    let a : n - i ≡ suc (n - (i + 1)) = omega arith in
-    let b : at + 8 * (i + 1) ≡ at + 8 * i + 8 = omega arith in
-    rw (a, b, add-one)
+raised-turn ms n at i s h = rw (doubles-on n at i s h, add-one)
 
 pub raised-end : (ms : List Float) (n at i : ℕ) (s : List ℕ) → n ≤ i → sets ms i (map raised (doublesAt (n - i) (at + 8 * i) s)) ≡ ms
-unfolding doublesAt
-raised-end ms n at i s h =
-    let z : n - i ≡ 0 = omega arith in
-    rw z
+raised-end ms n at i s h = rw (doubles-end n (at + 8 * i) i s h)
 
 -- ---- the first k entries of a store were lent, and are back
 

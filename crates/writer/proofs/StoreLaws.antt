@@ -14,8 +14,7 @@ use borrow.Rule.Slice.PartMut.{midOf, putMid}
 use Rattle.format.specs.Encoding.{twoBig}
 use Rattle.format.specs.Numbers.{big, little, i32Be, f64sLe}
 use Rattle.format.proofs.LayoutLaws.{sets-append}
-use Rattle.format.proofs.NumberLaws.{length-big, length-little, length-two}
-use Rattle.layouts.proofs.TableLaws.{length-f64sLe}
+use Rattle.format.proofs.NumberLaws.{length-big, length-little, length-two, length-f64sLe}
 
 -- ---- a tail
 

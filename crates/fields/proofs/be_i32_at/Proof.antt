@@ -1,19 +1,19 @@
+-- `fields::be_i32_at` meets its contract: the number is that of the field's bits.
 use mathlib.Core.Path.{_≡_, _∙_}
 use mir.Syntax.{w32}
 use mir.Val.{toZ}
 use borrow.Author.Needs.{needs}
 use Rattle.format.specs.Bytes.{be, field}
-use Rattle.format.specs.Numbers.{beI32}
+use Rattle.format.proofs.Equations.{beI32-is}
 use Rattle.format.proofs.SignLaws.{back}
 use Rattle.fields.proofs.be_i32_at.Statement.{statement}
 use Rattle.fields.proofs.be_i32_at.Tie as tie
 
 returns : tie.Need-returns
-unfolding beI32
 returns c =
     let a = c .before .before .before .args in
     let e : c .signed .result ≡ toZ w32 (be (field 4 (a .at) (a .s .now))) = cc in
-    back w32 (c .signed .result) (c .signed .ok) ∙ e
+    rw beI32-is (back w32 (c .signed .result) (c .signed .ok) ∙ e)
 
 pub be-i32-at-spec : {M : Type 1} → statement M
 be-i32-at-spec = tie.close (tie.spec (λ c κs. search needs) (λ c κs. search needs) returns)

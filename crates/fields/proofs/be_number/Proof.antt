@@ -1,9 +1,11 @@
-use mathlib.Core.Path.{_≡_, refl}
+-- `fields::be_number` meets its contract: after i turns it has the number of the first i bytes.
+use mathlib.Core.Path.{_≡_, sym}
 use Prim.Native.Nat.{_*_, _-_, _^_, _≤_, _<_}
 use native.Mathlib.Omega.{arith}
 use borrow.Author.Needs.{needs}
 use lib.Dec.{lit<}
-use Rattle.format.specs.Bytes.{le, be, field}
+use Rattle.format.specs.Bytes.{be, field}
+use Rattle.format.proofs.ByteLaws.{be-none}
 use Rattle.fields.proofs.Turns.{be-turn, turn-fits, turn-lt}
 use Rattle.fields.proofs.be_number.Statement.{statement}
 use Rattle.fields.proofs.be_number.Tie as tie
@@ -15,8 +17,7 @@ abbrev μ-loop : tie.MeasureT-loop
 μ-loop s at k n₀ i₀ n i = k - i
 
 loop-holds : tie.Need-loop-holds Inv-loop μ-loop
-unfolding be le field
-loop-holds c = (omega arith, refl, lit< tt)
+loop-holds c = (omega arith, sym (be-none _ _), lit< tt)
 
 mul-n : tie.Need-mul-n Inv-loop μ-loop
 mul-n c = omega (arith, turn-fits (c .before .loop .i) {b = 0} (omega arith) (c .before .loop .inv .2) (omega arith))

@@ -1,3 +1,4 @@
+-- `fields::bits` meets its contract: a NaN has the one pattern, and any other double its bits.
 use mathlib.Core.Path.{sym, _∙_, ap}
 use lib.Ieee.{binary64, toBits}
 use Rattle.format.proofs.NanLaws.{same-no-nan, differs-nan, nan-bits}

@@ -1,3 +1,4 @@
+-- `fields::double` meets its contract: a NaN's pattern gives a NaN, and any other bits their double.
 use mathlib.Core.Path.{sym, _∙_}
 use lib.Ieee.{binary64}
 use Rattle.format.proofs.NanLaws.{nan-pattern, no-nan-pattern, zero-by-zero}

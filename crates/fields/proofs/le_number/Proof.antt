@@ -1,10 +1,12 @@
-use mathlib.Core.Path.{_≡_, refl}
+-- `fields::le_number` meets its contract: at i it has the number of the bytes from i on.
+use mathlib.Core.Path.{_≡_, sym}
 use Prim.Native.Nat.{_+_, _*_, _-_, _^_, _≤_, _<_}
 use native.Mathlib.Omega.{arith}
 use borrow.Author.Needs.{needs}
 use native.Mathlib.Nat.{add-zero, sub-zero}
 use lib.Dec.{lit<}
 use Rattle.format.specs.Bytes.{le, field}
+use Rattle.format.proofs.ByteLaws.{le-none}
 use Rattle.fields.proofs.Turns.{le-turn, turn-fits, turn-lt}
 use Rattle.fields.proofs.le_number.Statement.{statement}
 use Rattle.fields.proofs.le_number.Tie as tie
@@ -16,10 +18,9 @@ abbrev μ-loop : tie.MeasureT-loop
 μ-loop s at k n₀ i₀ n i = i
 
 loop-holds : tie.Need-loop-holds Inv-loop μ-loop
-unfolding le field
 loop-holds c =
     let z : c .before .args .k - c .before .args .k ≡ 0 = omega arith in
-    rw z (omega arith, refl, lit< tt)
+    rw z (omega arith, sym (le-none _ _), lit< tt)
 
 mul-n : tie.Need-mul-n Inv-loop μ-loop
 mul-n c = omega (arith, turn-fits (c .before .before .before .args .k - c .before .loop .i) {b = 0} (omega arith) (c .before .loop .inv .2) (omega arith))

@@ -1,9 +1,11 @@
+-- `fields::put_be` meets its contract: storing the bytes that are left, those in front of place i, gives the output with all of them.
 use mathlib.Core.Path.{_≡_, refl, _∙_}
 use Prim.Native.Nat.{_≤_}
 use native.Mathlib.Omega.{arith}
 use lib.ListN.{length, length-set}
 use lib.Seq.{sets}
-use Rattle.format.specs.Bytes.{beBytes, leBytes}
+use Rattle.format.specs.Bytes.{beBytes}
+use Rattle.format.proofs.Equations.{beBytes-zero}
 use Rattle.fields.proofs.Turns.{put-be-turn}
 use Rattle.fields.proofs.put_be.Statement.{statement}
 use Rattle.fields.proofs.put_be.Tie as tie
@@ -25,11 +27,10 @@ loop-again c =
     (omega arith, simp length-set (l .inv .1), put-be-turn (l .out) (a .at) (l .i) (l .v) (omega arith) ∙ l .inv .2)
 
 returns : tie.Need-returns Inv-loop μ-loop
-unfolding beBytes leBytes
 returns c =
     let l = c .before .loop in
     let z : l .i ≡ 0 = omega arith in
-    rw z at (l .inv .2)
+    rw (z, beBytes-zero) at (l .inv .2)
 
 pub put-be-spec : {M : Type 1} → statement M
 put-be-spec =

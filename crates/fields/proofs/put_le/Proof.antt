@@ -1,3 +1,4 @@
+-- `fields::put_le` meets its contract: storing the bytes that are left, from place i on, gives the output with all of them.
 use mathlib.Core.Path.{_≡_, refl, _∙_}
 use Prim.Native.Nat.{_+_, _-_, _≤_}
 use native.Mathlib.Omega.{arith}
@@ -5,6 +6,7 @@ use native.Mathlib.Nat.{add-zero, sub-zero}
 use lib.ListN.{length, length-set}
 use lib.Seq.{sets}
 use Rattle.format.specs.Bytes.{leBytes}
+use Rattle.format.proofs.Equations.{leBytes-zero}
 use Rattle.fields.proofs.Turns.{put-le-turn}
 use Rattle.fields.proofs.put_le.Statement.{statement}
 use Rattle.fields.proofs.put_le.Tie as tie
@@ -26,11 +28,10 @@ loop-again c =
     (omega arith, simp length-set (l .inv .1), put-le-turn (l .out) (a .k) (a .at) (l .i) (l .v) (omega arith) ∙ l .inv .2)
 
 returns : tie.Need-returns Inv-loop μ-loop
-unfolding leBytes
 returns c =
     let l = c .before .loop in
     let z : c .before .before .args .k - l .i ≡ 0 = omega arith in
-    rw z at (l .inv .2)
+    rw (z, leBytes-zero) at (l .inv .2)
 
 pub put-le-spec : {M : Type 1} → statement M
 put-le-spec =

@@ -1,3 +1,4 @@
+-- `fields::read_doubles` meets its contract: storing the doubles that are left, from the i-th on, gives all of them.
 use mathlib.Core.Path.{_≡_, refl, _∙_}
 use Prim.Native.Nat.{_+_, _*_, _-_, _≤_}
 use native.Mathlib.Nat.{add-zero, sub-zero}
@@ -5,8 +6,9 @@ use native.Mathlib.Omega.{arith}
 use lib.ListN.{length, length-set}
 use lib.Seq.{sets}
 use Rattle.format.specs.Numbers.{doublesAt}
-use Rattle.format.proofs.NumberLaws.{length-doublesAt}
-use Rattle.fields.proofs.Turns.{read-turn, sets-all}
+use Rattle.format.proofs.LayoutLaws.{sets-all}
+use Rattle.format.proofs.NumberLaws.{length-doublesAt, doubles-end}
+use Rattle.fields.proofs.Turns.{read-turn}
 use Rattle.fields.proofs.read_doubles.Statement.{statement}
 use Rattle.fields.proofs.read_doubles.Tie as tie
 
@@ -32,11 +34,10 @@ loop-again c =
     )
 
 returns : tie.Need-returns Inv-loop μ-loop
-unfolding doublesAt
 returns c =
     let l = c .before .loop in
-    let z : length (c .before .before .before .before .args .out .now) - l .i ≡ 0 = omega arith in
-    rw z at (l .inv .2)
+    let a = c .before .before .before .before .args in
+    rw (doubles-end (length (a .out .now)) (a .at + 8 * l .i) (l .i) (a .s .now) (omega arith)) at (l .inv .2)
 
 pub read-doubles-spec : {M : Type 1} → statement M
 read-doubles-spec =

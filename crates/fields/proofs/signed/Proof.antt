@@ -1,3 +1,4 @@
+-- `fields::signed` meets its contract: a number from 2 ^ 31 on is the complement of what is left of it.
 use mathlib.Core.Path.{_≡_, ap}
 use Prim.Native.Nat.{_-_}
 use native.Mathlib.Omega.{arith}

@@ -1,11 +1,12 @@
+-- `fields::write_doubles` meets its contract: storing the doubles that are left, from the i-th on, gives the output with all of them.
 use mathlib.Core.Path.{_≡_, refl, _∙_}
-use mathlib.Core.List.{flatten}
 use Prim.Native.Nat.{_+_, _*_, _-_, _≤_}
 use native.Mathlib.Nat.{add-zero}
 use native.Mathlib.Omega.{arith}
 use lib.ListN.{length, drop}
 use lib.Seq.{sets, drop-length}
 use Rattle.format.specs.Numbers.{f64sLe}
+use Rattle.format.proofs.Equations.{f64sLe-nil}
 use Rattle.fields.proofs.Turns.{write-turn}
 use Rattle.fields.proofs.write_doubles.Statement.{statement}
 use Rattle.fields.proofs.write_doubles.Tie as tie
@@ -31,12 +32,11 @@ loop-again c =
     )
 
 returns : tie.Need-returns Inv-loop μ-loop
-unfolding f64sLe flatten
 returns c =
     let l = c .before .loop in
     let a = c .before .before .before .before .args in
     let z : l .i ≡ length (a .xs .now) = omega arith in
-    rw (z, drop-length) at (l .inv .2)
+    rw (z, drop-length, f64sLe-nil) at (l .inv .2)
 
 pub write-doubles-spec : {M : Type 1} → statement M
 write-doubles-spec =

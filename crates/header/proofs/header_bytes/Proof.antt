@@ -1,11 +1,12 @@
 -- `header::header_bytes` meets its contract: the lookup says whether the kind is known.
-use mathlib.Core.Path.{_≡_, sym, ap, _∙_}
-use lib.IntN.{ℤ}
+use mathlib.Core.Path.{_≡_, ap, _∙_}
 use mir.Syntax.{w32}
 use mir.Val.{SFits}
 use mir.ValLaws.{toZ-ofZ}
 use borrow.Author.Needs.{needs}
 use Rattle.format.specs.Kinds.{known, isKind, kindOf}
+use Rattle.format.specs.Said.{unknown}
+use Rattle.format.proofs.KindLaws.{known-found}
 use Rattle.header.proofs.header_bytes.Statement.{statement}
 use Rattle.header.proofs.header_bytes.Tie as tie
 
@@ -14,15 +15,13 @@ fits c = search needs
 
 -- whether the kind is known, by what the lookup found
 kind-is : (c : tie.After-find-kind) → known (c .before .before .args .h .«shape_type») ≡ isKind (c .find-kind .result)
-unfolding known
-kind-is c =
-    ap (λ (z : ℤ). isKind (kindOf z)) (sym (toZ-ofZ w32 _ (fits (c .before .before)))) ∙ ap isKind (sym (c .find-kind .ensures))
+kind-is c = known-found _ _ (c .find-kind .ensures ∙ ap kindOf (toZ-ofZ w32 _ (fits (c .before .before))))
 
 returns : tie.Need-returns
 returns c =
     let f = c .before .before .before in
     let e = kind-is f ∙ ap isKind (c .before .enum-told2 .given .1) in
-    rw (toZ-ofZ w32 _ (fits (f .before .before))) (record { says = rw e; bytes = rw e })
+    record { says = rw e (ap unknown (toZ-ofZ w32 _ (fits (f .before .before)))); bytes = rw e }
 
 returns-2 : tie.Need-returns-2
 returns-2 c =

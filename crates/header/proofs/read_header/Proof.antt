@@ -4,7 +4,7 @@ use mathlib.Core.Bool.{Bool, true, false}
 use mathlib.Core.List.{List}
 use Prim.Native.Nat.{ℕ}
 use native.Mathlib.Omega.{arith}
-use lib.IntN.{ℤ, pos}
+use lib.IntN.{pos}
 use lib.Signed.{nonNeg, ltZ}
 use mir.Syntax.{w32}
 use mir.Val.{toZ, ofZ}
@@ -13,6 +13,7 @@ use borrow.Author.Tests.{le-leb, lt-leb}
 use Rattle.format.specs.Kinds.{known, isKind, kindOf}
 use Rattle.format.specs.Numbers.{beI32, leI32}
 use Rattle.format.specs.Said.{otherCode, unknown}
+use Rattle.format.proofs.KindLaws.{known-found}
 use Rattle.format.proofs.SignLaws.{back, sign-test, nonNeg-yes, nonNeg-no}
 use Rattle.header.specs.Reading.{is9994, headerOf}
 use Rattle.header.proofs.ReadLaws.{left, start, past, refused, is9994-yes, is9994-no, made, cut, uncut}
@@ -62,10 +63,9 @@ words-sign : (c : tie.After-be-i32-at2) (b : Bool) → ltZ (toZ w32 (ofZ w32 (c 
 words-sign c b e = sign-test w32 (c .be-i32-at2 .result) (record { sfits = c .be-i32-at2 .ok }) b e
 
 kind-is : (c : tie.After-find-kind) → known (leI32 32 (s8 c)) ≡ isKind (c .find-kind .result)
-unfolding known
 kind-is c =
     let r = c .before .le-i32-at2 in
-    ap (λ (z : ℤ). isKind (kindOf z)) (sym (back w32 (r .result) (r .ok) ∙ r .ensures)) ∙ ap isKind (sym (c .find-kind .ensures))
+    known-found _ _ (c .find-kind .ensures ∙ ap kindOf (back w32 (r .result) (r .ok) ∙ r .ensures))
 
 -- ---- past each test
 

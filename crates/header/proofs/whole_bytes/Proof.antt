@@ -1,6 +1,6 @@
 -- `header::whole_bytes` meets its contract: what stands in the array after each call, and in the end the paper's fields.
 use mathlib.Core.Path.{_≡_, ap, ap₂, _∙_}
-use mathlib.Core.List.{List, flatten}
+use mathlib.Core.List.{List}
 use Prim.Native.Nat.{ℕ}
 use lib.IntN.{ℤ, pos}
 use lib.ListN.{replicate}
@@ -9,11 +9,9 @@ use mir.Syntax.{w32}
 use mir.Val.{SFits}
 use mir.ValLaws.{toZ-ofZ}
 use borrow.Author.Needs.{needs}
-use Rattle.format.specs.Bytes.{leBytes, beBytes}
-use Rattle.format.specs.Encoding.{headerBytes}
-use Rattle.format.specs.Numbers.{big, little, double, i32Be, i32Le, f64Le, f64sLe}
+use Rattle.format.specs.Numbers.{i32Be, i32Le, f64sLe}
 use Rattle.header.specs.Box.{boxList}
-use Rattle.header.specs.Writing.{bytesOf}
+use Rattle.header.proofs.WriteLaws.{all-stored}
 use Rattle.header.proofs.whole_bytes.Statement.{statement}
 use Rattle.header.proofs.whole_bytes.Tie as tie
 
@@ -74,10 +72,10 @@ w4 c =
     ∙ ap₂ (λ (l : List ℕ) (z : ℤ). sets l 32 (i32Le z)) (w3 (c .before .before .before .before)) (toZ-ofZ w32 _ (kind-fits (e4 c)))
 
 returns : tie.Need-returns
-unfolding bytesOf headerBytes flatten i32Be i32Le f64Le f64sLe big little double beBytes leBytes
 returns c =
     let p = c .before in
-    p .put-box .ensures ∙ ap (λ (l : List ℕ). sets l 36 (f64sLe (boxList (e5 p .args .h .bbox)))) (w4 (p .before .before .before))
+    p .put-box .ensures
+    ∙ (ap (λ (l : List ℕ). sets l 36 (f64sLe (boxList (e5 p .args .h .bbox)))) (w4 (p .before .before .before)) ∙ all-stored (e5 p .args .h))
 
 pub whole-bytes-spec : {M : Type 1} → statement M
 whole-bytes-spec =

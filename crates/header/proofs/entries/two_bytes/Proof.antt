@@ -8,21 +8,21 @@ use lib.Seq.{sets}
 use mir.Syntax.{w32}
 use mir.ValLaws.{toZ-ofZ}
 use borrow.Author.Needs.{needs}
-use Rattle.format.specs.Bytes.{leBytes, beBytes}
-use Rattle.format.specs.Numbers.{big, i32Be}
+use Rattle.format.specs.Numbers.{i32Be}
+use Rattle.header.proofs.EntryLaws.{both-stored}
 use Rattle.header.proofs.entries.two_bytes.Statement.{statement}
 use Rattle.header.proofs.entries.two_bytes.Tie as tie
 
 returns : tie.Need-returns
-unfolding i32Be big beBytes leBytes
 returns c =
     let q = c .before in
     let p = q .before .before .before in
     let a = p .before .before in
     q .put-be-i322 .ensures
-    ∙ ap₂ (λ (l : List ℕ) (z : ℤ). sets l 4 (i32Be z))
+    ∙ (ap₂ (λ (l : List ℕ) (z : ℤ). sets l 4 (i32Be z))
     (p .put-be-i32 .ensures ∙ ap (λ (z : ℤ). sets (replicate 8 0) 0 (i32Be z)) (toZ-ofZ w32 (a .args .a) (a .fits .a)))
     (toZ-ofZ w32 (a .args .b) (a .fits .b))
+    ∙ both-stored (a .args .a) (a .args .b))
 
 pub two-bytes-spec : {M : Type 1} → statement M
 two-bytes-spec =

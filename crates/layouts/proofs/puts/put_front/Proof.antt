@@ -1,12 +1,10 @@
 -- `layouts::puts::put_front` meets its contract: what stands in the output after each call, and in the end the front in one.
 use borrow.Author.Needs.{needs}
-use Rattle.format.specs.Numbers.{little}
 use Rattle.layouts.proofs.BodyLaws.{front-stored}
 use Rattle.layouts.proofs.puts.put_front.Statement.{statement}
 use Rattle.layouts.proofs.puts.put_front.Tie as tie
 
 returns : tie.Need-returns
-unfolding little
 returns c =
     let p = c .before .before in
     let q = p .before .before .before .before in

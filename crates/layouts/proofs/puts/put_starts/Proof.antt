@@ -6,7 +6,6 @@ use native.Mathlib.Nat.{add-zero}
 use native.Mathlib.Omega.{arith}
 use lib.ListN.{length, getD, drop}
 use lib.Seq.{sets, drop-length}
-use Rattle.format.specs.Numbers.{little}
 use Rattle.format.specs.Shapes.{sum}
 use Rattle.format.proofs.LayoutLaws.{sum-drop}
 use Rattle.layouts.specs.Steps.{startsBytes}
@@ -41,7 +40,6 @@ add-start : tie.Need-add-start Inv-loop μ-loop
 add-start c = omega (arith, rest c)
 
 loop-again : tie.Need-loop-again Inv-loop μ-loop
-unfolding little
 loop-again c =
     let p = c .before .before .before .put-le in
     let l = turn c .loop in
