@@ -1,6 +1,6 @@
--- Laws of the table of kinds: a search that has come to row i, and codes by their sign.
+-- Laws of the table of kinds: a search that has come to row i, codes by their sign, and what the lookup says.
 use mathlib.Core.Path.{_≡_, refl, sym, ap, _∙_, subst}
-use mathlib.Core.Bool.{Bool, true, false, cond, _&&_}
+use mathlib.Core.Bool.{Bool, true, false, cond, _&&_, _||_, not}
 use mathlib.Core.List.{List, [], _∷_}
 use mathlib.Core.Option.{Option, none, some}
 use Prim.Native.Nat.{ℕ, zero, suc, _+_, _≤_, _<_}
@@ -15,7 +15,8 @@ use lib.Signed.{ltZ}
 use borrow.Author.Tests.{ltb-true, eq-eqb, eqb-true, ne-eqb}
 use Rattle.format.specs.declared.kinds.Kind.{Kind}
 use Rattle.format.specs.declared.kinds.Found.the-variants.{Is, Unknown}
-use Rattle.format.specs.Kinds.{kinds, rowOf, kindAt, found, kindOf}
+use Rattle.format.specs.Kinds.{kinds, rowOf, kindAt, found, kindOf, isKind, known}
+use Rattle.format.specs.Shapes.{there}
 use Rattle.format.proofs.OrderLaws.{both-true}
 
 -- with d for a row past the end: the search ends at row i, or goes on
@@ -59,6 +60,13 @@ pub of-table : (ok : Kind → Bool) → every ok kinds ≡ true → (z : ℤ) (k
 of-table ok t (pos n) k e = row-in ok kinds (rowOf n kinds) k t e
 of-table ok t (negsuc n) k e = absurd (let z : _≡_ {A = ℕ} 0 1 = cc in omega arith)
 
+-- a kind with z has m
+pub z-has-m : (z : ℤ) (k : Kind) → kindAt z ≡ some k → k .z ≡ true → k .m ≡ true
+unfolding kinds
+z-has-m z k e h =
+    let t : not (k .z) || k .m ≡ true = of-table (λ r. not (r .z) || r .m) refl z k e in
+    rw h at t
+
 -- ---- what the lookup says of the row
 
 pub found-some : (o : Option Kind) (k : Kind) → found o ≡ Is k → o ≡ some k
@@ -68,6 +76,22 @@ found-some (some x) k e = cc
 pub found-none : (o : Option Kind) → found o ≡ Unknown → o ≡ none
 found-none none e = refl
 found-none (some x) e = cc
+
+pub kind-found : (z : ℤ) (k : Kind) → kindOf z ≡ Is k → kindAt z ≡ some k
+unfolding kindOf
+kind-found z k e = found-some (kindAt z) k e
+
+pub none-found : (z : ℤ) → kindOf z ≡ Unknown → kindAt z ≡ none
+unfolding kindOf
+none-found z e = found-none (kindAt z) e
+
+pub known-there : (z : ℤ) → known z ≡ there (kindAt z)
+unfolding known kindOf
+known-there z = go (kindAt z)
+  where
+    go : (o : Option Kind) → isKind (found o) ≡ there o
+    go none = refl
+    go (some k) = refl
 
 pub kindOf-neg : (z : ℤ) → ltZ z (pos 0) ≡ true → kindOf z ≡ Unknown
 unfolding kindOf

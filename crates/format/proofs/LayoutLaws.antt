@@ -1,14 +1,20 @@
 -- Fields one after the other: each stands at the sum of the widths before it, and storing them in turn stores them all.
-use mathlib.Core.Path.{_≡_, refl, sym, ap, _∙_}
+use mathlib.Core.Path.{_≡_, refl, sym, ap, ap₂, _∙_}
 use mathlib.Core.List.{List, [], _∷_, _++_, map, flatten}
 use Prim.Native.Nat.{ℕ, zero, suc, _+_, _-_, _≤_, _<_}
 use native.Mathlib.Nat.{not-suc-le-zero, le-of-suc-le-suc, zero-add, add-zero, add-suc, suc-add}
 use native.Mathlib.Numerals.{add-one}
 use native.Mathlib.Omega.{arith}
+use lib.IntN.{ℤ}
 use lib.ListN.{length, getD, take, drop, set, length-append}
 use lib.Seq.{drop-cons, sets, take-at, drop-append-add, drop-drop, take-add, take-take, take-nil}
+use mir.Syntax.{w32}
+use mir.Val.{ofZ}
 use Rattle.format.specs.Bytes.{field}
+use Rattle.format.specs.Encoding.{twoBig}
+use Rattle.format.specs.Numbers.{big, i32Be}
 use Rattle.format.specs.Shapes.{sum}
+use Rattle.format.proofs.NumberLaws.{length-big}
 
 abbrev pub widths : List (List ℕ) → List ℕ
 widths fs = map length fs
@@ -35,6 +41,14 @@ field-flatten (f ∷ fs) (suc i) h =
 pub sets-append {ℓ} : {A : Type ℓ} (a b l : List A) (i : ℕ) → sets l i (a ++ b) ≡ sets (sets l i a) (i + length a) b
 sets-append [] b l i = rw add-zero
 sets-append (x ∷ a) b l i = rw (add-suc, ← suc-add) (sets-append a b (set l i x) (suc i))
+
+-- bytes that are stored right behind others
+pub onto : (out l l′ a b : List ℕ) (at i : ℕ) → i ≡ at + length a → l ≡ sets out at a → l′ ≡ sets l i b → l′ ≡ sets out at (a ++ b)
+onto out l l′ a b at i p e f = f ∙ (ap₂ (λ (s : List ℕ) (k : ℕ). sets s k b) e p ∙ sym (sets-append a b out at))
+
+pub two-stored : (out l m : List ℕ) (a b : ℤ) → l ≡ sets out 0 (i32Be a) → m ≡ sets l 4 (i32Be b) → m ≡ sets out 0 (twoBig (ofZ w32 a) (ofZ w32 b))
+unfolding twoBig i32Be
+two-stored out l m a b e f = onto out l m (big (ofZ w32 a)) (big (ofZ w32 b)) 0 4 (omega (arith, length-big (ofZ w32 a))) e f
 
 -- ---- bytes cut into fields of given widths
 

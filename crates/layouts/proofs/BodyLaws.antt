@@ -1,5 +1,5 @@
 -- Laws of a body's bytes: they are the tables' fields in turn, storing the fields in turn stores them, and how many bytes they are.
-use mathlib.Core.Path.{_≡_, refl, sym, ap, ap₂, _∙_}
+use mathlib.Core.Path.{_≡_, refl, sym, ap, _∙_}
 use mathlib.Core.Bool.{Bool, true, false, cond}
 use mathlib.Core.List.{List, [], _∷_, _++_, flatten, append-assoc}
 use Prim.Native.Nat.{ℕ, _+_, _*_, _≤_}
@@ -11,17 +11,13 @@ use Rattle.format.specs.Encoding.{doubles, boxBytes, measureBytes, partsBytes}
 use Rattle.format.specs.Lengths.{contentWords, fixedWords, pointWords}
 use Rattle.format.specs.Numbers.{little, f64Le, f64sLe}
 use Rattle.format.specs.Shapes.{sum}
-use Rattle.format.proofs.LayoutLaws.{sets-append}
+use Rattle.format.proofs.LayoutLaws.{onto}
 use Rattle.format.proofs.NumberLaws.{length-little}
 use Rattle.header.specs.declared.bbox.BBoxZ.{BBoxZ}
 use Rattle.layouts.specs.Answers.{bodySize}
 use Rattle.layouts.specs.Steps.{measureSize, startsBytes, corners, frontBytes, Agreed}
 use Rattle.layouts.specs.Tables.{pointsOf, measureOf, partsOf}
 use Rattle.layouts.proofs.TableLaws.{length-points, points-bytes, split-length, split-whole, split-starts, doubles-bytes, length-f64sLe, length-starts}
-
--- bytes that are stored right behind others
-onto : (out l l′ a b : List ℕ) (at i : ℕ) → i ≡ at + length a → l ≡ sets out at a → l′ ≡ sets l i b → l′ ≡ sets out at (a ++ b)
-onto out l l′ a b at i p e f = f ∙ (ap₂ (λ (s : List ℕ) (k : ℕ). sets s k b) e p ∙ sym (sets-append a b out at))
 
 -- ---- box, counts and starts
 
