@@ -3,3 +3,4 @@ pub mod EntryLaws
 pub mod ReadLaws
 pub mod RoundTrip
 pub mod SaidLaws
+pub mod WriteLaws
