@@ -1,4 +1,4 @@
--- Laws of the table of kinds: a search that has come to row i, and codes by their sign.
+-- Laws of the table of kinds: a search that has come to row i, codes by their sign, and what the lookup says.
 use mathlib.Core.Path.{_≡_, refl, sym, ap, _∙_, subst}
 use mathlib.Core.Bool.{Bool, true, false, cond, _&&_, _||_, not}
 use mathlib.Core.List.{List, [], _∷_}
@@ -24,6 +24,7 @@ use Rattle.format.specs.Lengths
 use Rattle.format.specs.WellFormed.{hasRings}
 use Rattle.format.specs.Bytes.{le, field}
 use Rattle.format.specs.Numbers.{leI32}
+use Rattle.format.specs.Shapes.{there}
 use Rattle.format.proofs.OrderLaws.{both-true}
 
 -- with d for a row past the end: the search ends at row i, or goes on
@@ -98,6 +99,13 @@ module _ (z : ℤ) (k : Kind) (e : kindAt z ≡ some k) where
   pub rings-parts : hasRings k ≡ true → formOf k ≡ some Lengths.parts
   rings-parts r = parts-of (formOf k) (rw r at (tests .1))
 
+-- a kind with z has m
+pub z-has-m : (z : ℤ) (k : Kind) → kindAt z ≡ some k → k .z ≡ true → k .m ≡ true
+unfolding kinds
+z-has-m z k e h =
+    let t : not (k .z) || k .m ≡ true = of-table (λ r. not (r .z) || r .m) refl z k e in
+    rw h at t
+
 -- ---- what the lookup says of the row
 
 pub found-some : (o : Option Kind) (k : Kind) → found o ≡ Is k → o ≡ some k
@@ -112,6 +120,22 @@ found-none (some x) e = cc
 pub known-found : (z : ℤ) (r : Found) → r ≡ kindOf z → known z ≡ isKind r
 unfolding known
 known-found z r e = ap isKind (sym e)
+
+pub kind-found : (z : ℤ) (k : Kind) → kindOf z ≡ Is k → kindAt z ≡ some k
+unfolding kindOf
+kind-found z k e = found-some (kindAt z) k e
+
+pub none-found : (z : ℤ) → kindOf z ≡ Unknown → kindAt z ≡ none
+unfolding kindOf
+none-found z e = found-none (kindAt z) e
+
+pub known-there : (z : ℤ) → known z ≡ there (kindAt z)
+unfolding known kindOf
+known-there z = go (kindAt z)
+  where
+    go : (o : Option Kind) → isKind (found o) ≡ there o
+    go none = refl
+    go (some k) = refl
 
 pub kindOf-neg : (z : ℤ) → ltZ z (pos 0) ≡ true → kindOf z ≡ Unknown
 unfolding kindOf

@@ -1,8 +1,8 @@
--- Laws of content lengths. The constant table beside the kinds holds each kind's formulas: one computed test over the whole table.
+-- Laws of content lengths and of a kind's form. The constant table beside the kinds holds each kind's formulas: one computed test over the whole table.
 use mathlib.Core.Path.{_≡_, refl, sym, ap, _∙_}
 use mathlib.Core.Bool.{Bool, true, false, cond, _&&_, _||_, not}
 use mathlib.Core.List.{List, [], _∷_, map}
-use mathlib.Core.Option.{Option, none, some, bind}
+use mathlib.Core.Option.{Option, none, some, bind, Option·map}
 use Prim.Native.Nat.{ℕ, zero, suc, _+_, _*_, _^_, _≤_, _<_}
 use native.Mathlib.Nat.{not-suc-le-zero, le-of-suc-le-suc, le-of-lt, lt-of-le-of-lt, mul-le-mul-left, mul-lt-mul-of-pos-right}
 use native.Mathlib.Omega.{arith}
@@ -16,9 +16,10 @@ use Rattle.format.specs.declared.lengths.Content.{Content}
 use Rattle.format.specs.declared.lengths.Content.the-variants.{Taken, NotTaken}
 use Rattle.format.specs.declared.lengths.Counted.the-variants.{Is, Long}
 use Rattle.format.specs.declared.lengths.Formula.{Formula}
+use Rattle.format.specs.declared.lengths.Lengths.{Lengths}
 use Rattle.format.specs.declared.units.Words.{Words}
 use Rattle.format.specs.Kinds.{kind, kinds, rowOf, kindAt}
-use Rattle.format.specs.Lengths.{Form, nothing, onePoint, parts, formOf, fixedWords, pointWords, contentWords, lengthsOf, taken, contentOf, formulaWords, counted}
+use Rattle.format.specs.Lengths.{Form, nothing, onePoint, parts, formOf, fixedWords, pointWords, contentWords, lengthsOf, taken, contentOf, formulaWords, counted, lengthsFor}
 use Rattle.format.proofs.KindLaws.{code-is, of-table, elem-in, elem-out}
 
 abbrev row : ℕ → ℕ → ℕ → ℕ → Content
@@ -100,6 +101,56 @@ least-words true true p n = omega arith
 least-words true false p n = omega arith
 least-words false true p n = omega arith
 least-words false false p n = omega arith
+
+-- ---- the form of a kind: its lengths are those of its form, and a taken kind has the one that its code and flags say
+
+module _ (k : Kind) where
+  pub lengths-form : (l : Lengths) → lengthsOf k ≡ some l → (form : Form) × (formOf k ≡ some form) × (l ≡ lengthsFor k form)
+  unfolding lengthsOf
+  lengths-form l e = go (formOf k) refl e
+    where
+      go : (o : Option Form) → formOf k ≡ o → Option·map (lengthsFor k) o ≡ some l → (form : Form) × (formOf k ≡ some form) × (l ≡ lengthsFor k form)
+      go none p q = absurd (let z : _≡_ {A = ℕ} 0 1 = cc in omega arith)
+      go (some form) p q = (form, p, cc)
+
+  pub form-by : (form : Form) → formOf k ≡ some form → form ≡ cond (eqb (k .code) 0) nothing (cond (k .parts) parts onePoint)
+  unfolding formOf
+  form-by form e = go (eqb (k .code) 8 || eqb (k .code) 18 || eqb (k .code) 28 || eqb (k .code) 31) (eqb (k .code) 0) (k .parts) e
+    where
+      go : (u z p : Bool) → cond u none (cond z (some nothing) (cond p (some parts) (some onePoint))) ≡ some form → form ≡ cond z nothing (cond p parts onePoint)
+      go true z p e = absurd (let q : _≡_ {A = ℕ} 0 1 = cc in omega arith)
+      go false true p e = cc
+      go false false true e = cc
+      go false false false e = cc
+
+  -- as the table beside the kinds says it
+  module _ (z : ℤ) (e : kindAt z ≡ some k) where
+    pub content-none : contentOf (k .code) ≡ NotTaken → formOf k ≡ none
+    unfolding lengthsOf
+    content-none c = go (formOf k) (sym (content-is z k e) ∙ c)
+      where
+        go : (o : Option Form) → taken (Option·map (lengthsFor k) o) ≡ NotTaken → o ≡ none
+        go none q = refl
+        go (some form) q = absurd (let z : _≡_ {A = ℕ} 0 1 = cc in omega arith)
+
+    pub content-some : (l : Lengths) → contentOf (k .code) ≡ Taken l → lengthsOf k ≡ some l
+    content-some l c = go (lengthsOf k) (sym (content-is z k e) ∙ c)
+      where
+        go : (o : Option Lengths) → taken o ≡ Taken l → o ≡ some l
+        go none q = absurd (let z : _≡_ {A = ℕ} 0 1 = cc in omega arith)
+        go (some x) q = cc
+
+-- ---- what a formula comes to
+
+least : (a b c : ℕ) → 2 ≤ a → 2 ≤ a + b + c
+least a b c h = omega arith
+
+-- the kind's field at least
+pub least-words : (f : Form) (z m : Bool) (p n : ℕ) → 2 ≤ contentWords f z m p n
+unfolding contentWords fixedWords
+least-words nothing z m p n = least _ _ _ (omega arith)
+least-words onePoint z m p n = least _ _ _ (omega arith)
+least-words parts z m p n = least _ _ _ (omega arith)
 
 module _ (f : Formula) (p n : ℕ) where
   pub counted-long : Long ≡ counted f p n → 2 ^ 31 ≤ formulaWords f p n

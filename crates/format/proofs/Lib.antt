@@ -9,6 +9,7 @@ pub mod KindLaws
 pub mod Laid
 pub mod LayoutLaws
 pub mod LengthLaws
+pub mod More
 pub mod NanLaws
 pub mod NumberLaws
 pub mod OrderLaws

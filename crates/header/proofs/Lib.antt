@@ -6,3 +6,4 @@ pub mod ReadLaws
 pub mod RoundTrip
 pub mod SaidLaws
 pub mod WriteLaws
+pub mod WrittenLaws

@@ -2,16 +2,17 @@
 use mathlib.Core.Path.{_≡_, sym, _∙_}
 use mathlib.Core.Bool.{Bool, true, false, cond}
 use mathlib.Core.List.{List}
-use Prim.Native.Nat.{ℕ, _*_, _/_, _%_, _^_, _≤_, _<_}
+use Prim.Native.Nat.{ℕ, _+_, _*_, _-_, _/_, _%_, _^_, _≤_, _<_}
 use native.Mathlib.Omega.{arith}
 use lib.Dec.{eqb, ltb, leb}
 use lib.Ieee.{Float}
 use lib.ListN.{length}
 use borrow.Author.Tests.{eq-eqb, ne-eqb, lt-ltb, le-ltb, le-leb, lt-leb, eqb-true, eqb-false, ltb-true, leb-true}
+use Rattle.format.specs.Lengths.{parts, contentWords}
 use Rattle.format.specs.Said.{gives, tables, long, roomBytes}
 use Rattle.format.specs.Shapes.{sum}
 use Rattle.format.proofs.OrderLaws.{passed, both-true}
-use Rattle.layouts.specs.Answers.{agree, bodySize, layoutTests, layoutOf}
+use Rattle.layouts.specs.Answers.{agree, countsHeld, bodySize, layoutTests, layoutOf}
 use Rattle.layouts.specs.Steps.{Placed}
 use Rattle.layouts.proofs.TableLaws.{agreed}
 
@@ -69,6 +70,13 @@ module _ (z m : Bool) (counts : List ℕ) (xy zs ms : List Float) (room : ℕ) w
 
             pub has-room : size ≤ room → gives size ≡ layoutOf z m counts xy zs ms room
             has-room h = sym (left ∙ rw (le-leb size room h))
+
+-- where all pass, with the room that the content's words ask for
+pub all-pass : (z m : Bool) (counts : List ℕ) (xy zs ms : List Float) (room : ℕ) → agree z m counts xy zs ms ≡ true → countsHeld counts ≡ true → 2 * contentWords parts z m (length counts) (sum counts) ≤ 4 + room → layoutOf z m counts xy zs ms room ≡ gives (bodySize z m (length counts) (sum counts))
+unfolding layoutOf bodySize
+all-pass z m counts xy zs ms room a c w =
+    let h : 2 * contentWords parts z m (length counts) (sum counts) - 4 ≤ room = omega arith in
+    rw (a, c, le-leb _ _ h)
 
 -- ---- once all have passed
 

@@ -1,6 +1,6 @@
 -- Laws of the shape that tables describe: where the counts sum to the points, its bytes are those of the tables, one after the other.
 use mathlib.Core.Path.{_≡_, refl, ap, _∙_}
-use mathlib.Core.Bool.{Bool, true, cond, _&&_}
+use mathlib.Core.Bool.{Bool, true, false, cond, _&&_}
 use mathlib.Core.List.{List, [], _∷_, _++_, map, flatten}
 use Prim.Native.Nat.{ℕ, suc, _+_, _*_, _/_, _%_, _≤_}
 use native.Mathlib.Omega.{arith}
@@ -9,16 +9,18 @@ use lib.Ieee.{Float}
 use lib.ListN.{length, take, drop, length-append, length-drop, take-append-drop}
 use lib.Seq.{length-take-le}
 use borrow.Author.Tests.{eqb-true}
-use Rattle.format.specs.Encoding.{doubles, pointBytes, startsFrom}
+use Rattle.format.specs.Encoding.{doubles, pointBytes, startsFrom, shapeWords}
+use Rattle.format.specs.Lengths.{parts, contentWords}
 use Rattle.format.specs.Numbers.{little, f64sLe}
-use Rattle.format.specs.Shapes.{Point, sum}
+use Rattle.format.specs.Shapes.{Point, parted, there, sum}
 use Rattle.format.specs.WellFormed.{coordinates}
-use Rattle.format.proofs.Equations.{startsFrom-nil, startsFrom-cons}
+use Rattle.format.proofs.Equations.{startsFrom-nil, startsFrom-cons, words-parted}
 use Rattle.format.proofs.Laid.{points-doubles}
 use Rattle.format.proofs.NumberLaws.{length-little, doubles-bits}
 use Rattle.format.proofs.OrderLaws.{both-true}
+use Rattle.header.specs.declared.bbox.BBoxZ.{BBoxZ}
 use Rattle.layouts.specs.Steps.{startsBytes, Agreed}
-use Rattle.layouts.specs.Tables.{bits, pointsOf, splitBy}
+use Rattle.layouts.specs.Tables.{bits, pointsOf, splitBy, measureOf, boxOf, partsOf}
 
 -- ---- tables that agree
 
@@ -70,6 +72,36 @@ split-starts [] ps a e = rw startsFrom-nil
 split-starts (n ∷ ns) ps a e =
     let k : n ≤ length ps = omega arith in
     rw (startsFrom-cons, length-take-le n ps k) (ap (λ (l : List ℕ). little a ++ l) (split-starts ns (drop n ps) (a + n) (rest-sum n (sum ns) ps e)))
+
+pub split-counts : (counts : List ℕ) (ps : List Point) → sum counts ≡ length ps → map length (splitBy counts ps) ≡ counts
+unfolding splitBy
+split-counts [] ps e = refl
+split-counts (n ∷ ns) ps e =
+    let k : n ≤ length ps = omega arith in
+    rw (length-take-le n ps k) (ap (_∷_ n) (split-counts ns (drop n ps) (rest-sum n (sum ns) ps e)))
+
+-- ---- the whole shape
+
+pub parts-are : (z m : Bool) (b : BBoxZ) (counts : List ℕ) (xy zs ms : List Float)
+    → partsOf z m b counts xy zs ms
+    ≡ record {
+      box = boxOf b;
+      parts = splitBy counts (pointsOf xy);
+      z = measureOf z (b .zmin) (b .zmax) zs;
+      m = measureOf m (b .mmin) (b .mmax) ms;
+    }
+unfolding partsOf
+parts-are z m b counts xy zs ms = refl
+
+pub there-measure : (flag : Bool) (low high : Float) (vs : List Float) → there (measureOf flag low high vs) ≡ flag
+there-measure true low high vs = refl
+there-measure false low high vs = refl
+
+pub parts-words : (z m : Bool) (b : BBoxZ) (counts : List ℕ) (xy zs ms : List Float) → length xy ≡ 2 * sum counts → shapeWords (parted (partsOf z m b counts xy zs ms)) ≡ contentWords parts z m (length counts) (sum counts)
+unfolding partsOf
+parts-words z m b counts xy zs ms e =
+    let n : sum counts ≡ length (pointsOf xy) = omega (arith, length-points xy) in
+    rw (words-parted, there-measure z (b .zmin) (b .zmax) zs, there-measure m (b .mmin) (b .mmax) ms, split-length counts (pointsOf xy), split-whole counts (pointsOf xy) n, n)
 
 pub length-starts : (counts : List ℕ) (a : ℕ) → length (startsBytes a counts) ≡ 4 * length counts
 unfolding startsBytes

@@ -2,7 +2,7 @@
 use mathlib.Core.Path.{_≡_, refl, sym, ap, _∙_}
 use mathlib.Core.Bool.{Bool, true, false}
 use mathlib.Core.List.{List, [], _∷_}
-use mathlib.Core.Option.{Option, none, some, Option·map}
+use mathlib.Core.Option.{some}
 use Prim.Native.Nat.{ℕ, _≤_, _<_}
 use native.Mathlib.Omega.{arith}
 use lib.Dec.{T, lit<}
@@ -21,13 +21,14 @@ use Rattle.format.specs.declared.lengths.Content.the-variants as ContentIs
 use Rattle.format.specs.declared.lengths.Lengths.{Lengths}
 use Rattle.format.specs.declared.units.Bytes.{Bytes}
 use Rattle.format.specs.Kinds.{kindOf, isKind, known, kindAt}
-use Rattle.format.specs.Lengths.{Form, formOf, lengthsFor, lengthsOf, taken, contentOf}
+use Rattle.format.specs.Lengths.{formOf, lengthsOf, contentOf}
 use Rattle.format.specs.Order.{first}
 use Rattle.format.specs.Said.{Said, notTaken}
 use Rattle.format.specs.Shapes.{there}
 use Rattle.format.specs.Units.{sameInt, inI32}
-use Rattle.format.proofs.KindLaws.{found-some, code-is}
-use Rattle.format.proofs.LengthLaws.{content-is}
+use Rattle.format.proofs.Equations as Equations
+use Rattle.format.proofs.KindLaws.{kind-found, code-is}
+use Rattle.format.proofs.LengthLaws.{lengths-form, content-none, content-some}
 use Rattle.format.proofs.OrderLaws.{first-append}
 use Rattle.record.specs.declared.Wanted.{Wanted}
 use Rattle.record.specs.declared.Wanted.the-variants as Wants
@@ -41,12 +42,10 @@ use Rattle.record.specs.Steps.{Passes, Refuses, Held, Fronts}
 -- ---- the lookups
 
 pub known-is : (z : ℤ) (r r′ : Found) → r ≡ kindOf z → r ≡ r′ → known z ≡ isKind r′
-unfolding known
-known-is z r r′ e f = ap isKind (sym e ∙ f)
+known-is z r r′ e f = Equations.known-is z ∙ ap isKind (sym e ∙ f)
 
 pub kind-at : (z : ℤ) (r : Found) (k : Kind) → r ≡ kindOf z → r ≡ FoundIs.Is k → kindAt z ≡ some k
-unfolding kindOf
-kind-at z r k e f = found-some (kindAt z) k (sym e ∙ f)
+kind-at z r k e f = kind-found z k (sym e ∙ f)
 
 -- a known code is not negative
 pub known-casts : (z : ℤ) (k : Kind) → kindAt z ≡ some k → SFits w32 z → T (nonNeg (toZ w32 (ofZ w32 z))) × Fits w32 (natAbs (toZ w32 (ofZ w32 z)))
@@ -57,29 +56,19 @@ known-casts z k e f = rw (toZ-ofZ w32 z f) (by z e f)
     by (negsuc n) e f = let q : _≡_ {A = ℕ} 0 1 = cc in absurd (omega arith)
 
 module _ (z : ℤ) (k : Kind) (e : kindAt z ≡ some k) where
-  content-here : contentOf (natAbs z) ≡ taken (lengthsOf k)
-  content-here = ap (λ (x : ℤ). contentOf (natAbs x)) (code-is z k e) ∙ content-is z k e
+  content-here : contentOf (natAbs z) ≡ contentOf (k .code)
+  content-here = ap (λ (x : ℤ). contentOf (natAbs x)) (code-is z k e)
 
   taken-is : (b : Bool) → there (formOf k) ≡ b → isTaken z ≡ b
   taken-is b f = rw e f
 
   pub taken-no : (c : Content) → c ≡ contentOf (natAbs z) → c ≡ ContentIs.NotTaken → isTaken z ≡ false
-  unfolding lengthsOf
-  taken-no c f g = taken-is false (by (formOf k) (sym g ∙ (f ∙ content-here)))
-    where
-      by : (o : Option Form) → ContentIs.NotTaken ≡ taken (Option·map (lengthsFor k) o) → there o ≡ false
-      by none e = refl
-      by (some x) e = cc
+  taken-no c f g = taken-is false (ap there (content-none k z e (sym (f ∙ content-here) ∙ g)))
 
   pub taken-yes : (c : Content) (l : Lengths) → c ≡ contentOf (natAbs z) → c ≡ ContentIs.Taken l → (isTaken z ≡ true) × (lengthsOf k ≡ some l)
-  unfolding lengthsOf
   taken-yes c l f g =
-      let r = by (formOf k) (sym g ∙ (f ∙ content-here)) in
-      (taken-is true (r .0), r .1)
-    where
-      by : (o : Option Form) → ContentIs.Taken l ≡ taken (Option·map (lengthsFor k) o) → (there o ≡ true) × (Option·map (lengthsFor k) o ≡ some l)
-      by none e = (cc, cc)
-      by (some x) e = (refl, cc)
+      let r = content-some k z e l (sym (f ∙ content-here) ∙ g) in
+      (taken-is true (ap there (lengths-form k l r .1)), r)
 
 -- ---- codes by their bits
 

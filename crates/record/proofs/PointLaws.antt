@@ -13,6 +13,7 @@ use Rattle.format.specs.declared.units.Bytes.{Bytes}
 use Rattle.format.specs.Lengths.{onePoint, contentWords, lengthsFor, formulaWords}
 use Rattle.format.specs.Order.{first, fieldsFrom}
 use Rattle.format.specs.Said.{Said, gives, short}
+use Rattle.format.proofs.Equations.{words-are}
 use Rattle.format.proofs.OrderLaws.{fields-whole, fields-cut}
 use Rattle.record.specs.declared.Point.{Point}
 use Rattle.record.specs.declared.RecordAnswer.the-variants as Is
@@ -43,8 +44,7 @@ module _ (k : Kind) (n : ℕ) (h : 4 + 8 * doublesOf k ≤ n) where
 
 module _ (k : Kind) (l : Lengths) (size : Bytes) (s : List ℕ) (e : l ≡ lengthsFor k onePoint) where
   size-is : isWords size (formulaWords (l .with) 0 1) ≡ isWords size (contentWords onePoint (k .z) (k .m) 0 1)
-  unfolding contentWords
-  size-is = ap (λ (x : Lengths). isWords size (formulaWords (x .with) 0 1)) e
+  size-is = ap (λ (x : Lengths). isWords size (formulaWords (x .with) 0 1)) e ∙ ap (isWords size) (sym (words-are onePoint (k .z) (k .m) 0 1))
 
   pub other-size : false ≡ isWords size (formulaWords (l .with) 0 1) → Answers (pointOf k size s) (Is.Size 0)
   unfolding pointOf

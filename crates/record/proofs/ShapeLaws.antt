@@ -1,8 +1,8 @@
 -- Laws of the whole: which form a taken kind has, and how what the front and the shape say is what the record says.
 use mathlib.Core.Path.{_≡_, refl, sym, ap, _∙_}
-use mathlib.Core.Bool.{Bool, true, false, cond, _||_}
+use mathlib.Core.Bool.{true, false, cond}
 use mathlib.Core.List.{List}
-use mathlib.Core.Option.{Option, none, some, Option·map}
+use mathlib.Core.Option.{Option, some}
 use Prim.Native.Nat.{ℕ}
 use lib.Dec.{eqb}
 use lib.Ieee.{Float}
@@ -15,6 +15,7 @@ use Rattle.format.specs.declared.units.Bytes.{Bytes}
 use Rattle.format.specs.Kinds.{kindOr}
 use Rattle.format.specs.Lengths.{Form, nothing, onePoint, parts, formOf, lengthsFor, lengthsOf, formIn}
 use Rattle.format.specs.Said.{Said}
+use Rattle.format.proofs.LengthLaws.{lengths-form, form-by}
 use Rattle.multipart.specs.Body.{zIn, mIn}
 use Rattle.record.specs.declared.Wanted.{Wanted}
 use Rattle.record.specs.declared.RecordAnswer.{RecordAnswer}
@@ -26,43 +27,24 @@ use Rattle.record.proofs.PartsLaws.{stored-none}
 -- ---- the form of a kind that has lengths
 
 module _ (k : Kind) (l : Lengths) (t : lengthsOf k ≡ some l) where
-  untaken : Bool
-  untaken = eqb (k .code) 8 || eqb (k .code) 18 || eqb (k .code) 28 || eqb (k .code) 31
+  formed : (form : Form) × (formOf k ≡ some form) × (l ≡ lengthsFor k form)
+  formed = lengths-form k l t
 
-  form : Option Form
-  form = cond (eqb (k .code) 0) (some nothing) (cond (k .parts) (some parts) (some onePoint))
+  form-is : formed .0 ≡ cond (eqb (k .code) 0) nothing (cond (k .parts) parts onePoint)
+  form-is = form-by k (formed .0) (formed .1)
 
-  form-is : formOf k ≡ form
-  unfolding lengthsOf formOf untaken form
-  form-is = by untaken t
-    where
-      by : (b : Bool) → Option·map (lengthsFor k) (cond b none form) ≡ some l → cond b none form ≡ form
-      by true e = cc
-      by false e = refl
-
-  lengths-are : (f : Form) → formOf k ≡ some f → l ≡ lengthsFor k f
-  unfolding lengthsOf
-  lengths-are f e = by (Option·map (lengthsFor k) (some f)) refl (sym t ∙ ap (Option·map (lengthsFor k)) e)
-    where
-      by : (o : Option Lengths) → o ≡ some (lengthsFor k f) → some l ≡ o → l ≡ lengthsFor k f
-      by o p q = cc
+  of-form : (f : Form) → formed .0 ≡ f → (formOf k ≡ some f) × (l ≡ lengthsFor k f)
+  of-form f e = (formed .1 ∙ ap some e, formed .2 ∙ ap (lengthsFor k) e)
 
   pub null-form : k .code ≡ 0 → formOf k ≡ some nothing
-  unfolding form
-  null-form e = form-is ∙ rw (eq-eqb (k .code) 0 e)
+  null-form e = of-form nothing (form-is ∙ rw (eq-eqb (k .code) 0 e)) .0
 
   module _ (n : k .code ≡ 0 → ⊥) where
     pub parts-form : k .parts ≡ true → (formOf k ≡ some parts) × (l ≡ lengthsFor k parts)
-    unfolding form
-    parts-form e =
-        let f : formOf k ≡ some parts = form-is ∙ rw (ne-eqb (k .code) 0 n, e) in
-        (f, lengths-are parts f)
+    parts-form e = of-form parts (form-is ∙ rw (ne-eqb (k .code) 0 n, e))
 
     pub point-form : k .parts ≡ false → (formOf k ≡ some onePoint) × (l ≡ lengthsFor k onePoint)
-    unfolding form
-    point-form e =
-        let f : formOf k ≡ some onePoint = form-is ∙ rw (ne-eqb (k .code) 0 n, e) in
-        (f, lengths-are onePoint f)
+    point-form e = of-form onePoint (form-is ∙ rw (ne-eqb (k .code) 0 n, e))
 
 -- ---- the shape by its form
 

@@ -17,6 +17,7 @@ use Rattle.format.specs.declared.units.Bytes.{Bytes}
 use Rattle.format.specs.declared.units.Words.{Words}
 use Rattle.format.specs.Lengths.{parts, contentWords, lengthsFor, counted, formulaWords}
 use Rattle.format.specs.Units.{sameInt, inI32, inBytes}
+use Rattle.format.proofs.Equations.{words-are}
 use Rattle.format.proofs.LengthLaws.{counted-long, counted-held}
 use Rattle.format.proofs.UnitLaws.{same-yes, same-no, same-bits}
 use Rattle.record.specs.Reading.{isWords, hasM, sizeRight}
@@ -97,12 +98,10 @@ module _ (k : Kind) (l : Lengths) (size : Bytes) (p n : ℕ) (e : l ≡ lengthsF
   fits m = isWords size (contentWords parts (k .z) m p n)
 
   with-is : isWords size (formulaWords (l .with) p n) ≡ fits (k .m)
-  unfolding contentWords
-  with-is = ap (λ (x : Lengths). isWords size (formulaWords (x .with) p n)) e
+  with-is = ap (λ (x : Lengths). isWords size (formulaWords (x .with) p n)) e ∙ ap (isWords size) (sym (words-are parts (k .z) (k .m) p n))
 
   without-is : isWords size (formulaWords (l .without) p n) ≡ fits false
-  unfolding contentWords
-  without-is = ap (λ (x : Lengths). isWords size (formulaWords (x .without) p n)) e
+  without-is = ap (λ (x : Lengths). isWords size (formulaWords (x .without) p n)) e ∙ ap (isWords size) (sym (words-are parts (k .z) false p n))
 
   or-true : (a : Bool) → (a || true) ≡ true
   or-true true = refl

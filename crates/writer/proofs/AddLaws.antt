@@ -1,12 +1,11 @@
 -- Laws of adding a record that passed every test: what its writers ask, and that what they leave is what document 01 says.
 use mathlib.Core.Path.{_≡_, refl, sym, ap, _∙_, subst}
-use mathlib.Core.Bool.{Bool, true, false, _||_, not}
+use mathlib.Core.Bool.{true}
 use mathlib.Core.List.{List}
-use mathlib.Core.Option.{some}
 use Prim.Native.Nat.{ℕ, _+_, _*_, _-_, _^_, _≤_, _<_}
 use native.Mathlib.Omega.{arith}
 use lib.Dec.{T}
-use lib.IntN.{ℤ, pos, natAbs}
+use lib.IntN.{pos, natAbs}
 use lib.ListN.{length}
 use lib.Seq.{sets}
 use mir.Syntax.{w32}
@@ -14,9 +13,8 @@ use mir.Val.{ofZ}
 use Rattle.format.specs.declared.kinds.Kind.{Kind}
 use Rattle.format.specs.declared.units.Words.{Words}
 use Rattle.format.specs.Encoding.{shapeWords, recordBytes, twoBig}
-use Rattle.format.specs.Kinds.{kinds, kindAt}
 use Rattle.format.specs.Said.{unlessRefused}
-use Rattle.format.proofs.KindLaws.{code-is, of-table}
+use Rattle.format.proofs.KindLaws.{code-is, z-has-m}
 use Rattle.writer.specs.declared.State.{State}
 use Rattle.writer.specs.declared.AddAnswer.{AddAnswer}
 use Rattle.writer.specs.declared.AddAnswer.the-variants.{Added, Size, Unknown, NotTaken, Mismatch, Tables, Long, Room}
@@ -25,19 +23,6 @@ use Rattle.writer.specs.Boxes.{grown, ownBox}
 use Rattle.writer.specs.Judging.{naturalOf, wordsOf, isRefused, shapeBy, wordsBy, AllPassed, AllRefused, Ready, nextBy}
 use Rattle.writer.proofs.ShapeLaws.{lent-kind, lent-form, shape-is, words-are}
 use Rattle.writer.proofs.StateLaws.{Fine, fine, number-natural, words-natural}
-
--- ---- a kind with z has m: one test over the table
-
-fineRow : Kind → Bool
-fineRow k = not (k .z) || k .m
-
-has-m : (z m : Bool) → not z || m ≡ true → z ≡ true → m ≡ true
-has-m true m h e = h
-has-m false m h e = absurd (subst T (sym e) tt)
-
-z-has-m : (code : ℤ) (k : Kind) → kindAt code ≡ some k → k .z ≡ true → k .m ≡ true
-unfolding kinds fineRow
-z-has-m code k e = has-m (k .z) (k .m) (of-table fineRow refl code k e)
 
 -- ---- a refusal leaves all as it was
 

@@ -1,8 +1,8 @@
 -- Laws of a shape's body by its kind: a point's values, or what the layout's writer leaves.
 use mathlib.Core.Path.{_≡_, refl, sym, ap, _∙_}
 use mathlib.Core.Bool.{Bool, true, false, cond}
-use mathlib.Core.List.{List, [], _∷_, _++_, flatten, append-nil}
-use Prim.Native.Nat.{ℕ, _+_, _*_, _-_, _≤_}
+use mathlib.Core.List.{List, [], _∷_, _++_, append-nil}
+use Prim.Native.Nat.{ℕ, _+_, _*_, _≤_}
 use native.Mathlib.Omega.{arith}
 use lib.Ieee.{Float}
 use lib.IntN.{ℤ, pos}
@@ -10,39 +10,39 @@ use lib.ListN.{length}
 use lib.Seq.{sets}
 use mir.Syntax.{w32}
 use mir.Val.{ofZ}
-use borrow.Author.Tests.{le-leb}
 use Rattle.format.specs.declared.kinds.Kind.{Kind}
 use Rattle.format.specs.declared.units.Words.{Words}
-use Rattle.format.specs.Encoding as Encoding
-use Rattle.format.specs.Encoding.{shapeBytes, shapeWords, pointBytes, valueBytes, partsBytes, twoBig, recordBytes}
-use Rattle.format.specs.Lengths.{onePoint, parts, fixedWords, pointWords, contentWords}
-use Rattle.format.specs.Numbers.{little, f64Le, f64sLe}
+use Rattle.format.specs.Encoding.{shapeBytes, shapeWords, valueBytes, partsBytes, twoBig, recordBytes}
+use Rattle.format.specs.Lengths.{onePoint, contentWords}
+use Rattle.format.specs.Numbers.{little, f64sLe}
 use Rattle.format.specs.Said.{Said, gives, unlessRefused}
 use Rattle.format.specs.Shapes.{Shape, sum}
+use Rattle.format.proofs.Equations as Equations
+use Rattle.format.proofs.Equations.{f64Le-is, f64sLe-nil, f64sLe-cons, words-are, fixed-point, each-point, pointBytes-is, shape-point, shape-parted, content-bytes}
+use Rattle.format.proofs.LengthLaws.{least-words}
 use Rattle.header.specs.declared.bbox.BBoxZ.{BBoxZ}
 use Rattle.layouts.specs.declared.LayoutAnswer.{LayoutAnswer}
-use Rattle.layouts.specs.Answers.{agree, bodySize, layoutOf, WritesBody}
+use Rattle.layouts.specs.Answers.{bodySize, layoutOf, WritesBody}
 use Rattle.layouts.specs.Steps.{Agreed}
 use Rattle.layouts.specs.Tables.{partsOf}
+use Rattle.layouts.proofs.JudgeLaws.{all-pass}
 use Rattle.writer.specs.Adding.{valueOf, pointShape}
-use Rattle.writer.specs.Judging.{shapeBy, wordsBy, wordsOf, Ready, pointsBy}
+use Rattle.writer.specs.Judging.{formBy, shapeBy, wordsBy, wordsOf, Ready, pointsBy}
 use Rattle.writer.proofs.ShapeLaws.{tables, empty}
 
 -- ---- a point
 
 value-bytes : (flag : Bool) (vs : List Float) → length vs ≡ cond flag 1 0 → valueBytes (valueOf flag vs) ≡ f64sLe vs
-unfolding f64sLe f64Le flatten
 value-bytes true [] e = absurd (omega arith)
-value-bytes true (x ∷ []) e = sym (append-nil _)
+value-bytes true (x ∷ []) e = rw (f64sLe-cons, f64sLe-nil, append-nil, f64Le-is)
 value-bytes true (x ∷ y ∷ vs) e = absurd (omega arith)
-value-bytes false [] e = refl
+value-bytes false [] e = sym f64sLe-nil
 value-bytes false (x ∷ vs) e = absurd (omega arith)
 
 point-bytes : (k : Kind) (xy zs ms : List Float) → length xy ≡ 2 → length zs ≡ cond (k .z) 1 0 → length ms ≡ cond (k .m) 1 0 → shapeBytes (pointShape k xy zs ms) ≡ f64sLe xy ++ (f64sLe zs ++ f64sLe ms)
-unfolding shapeBytes pointBytes f64sLe f64Le flatten
 point-bytes k [] zs ms e f g = absurd (omega arith)
 point-bytes k (x ∷ []) zs ms e f g = absurd (omega arith)
-point-bytes k (x ∷ y ∷ []) zs ms e f g = rw (value-bytes (k .z) zs f, value-bytes (k .m) ms g, append-nil)
+point-bytes k (x ∷ y ∷ []) zs ms e f g = rw (shape-point, pointBytes-is, value-bytes (k .z) zs f, value-bytes (k .m) ms g, f64sLe-cons x (y ∷ []), f64sLe-cons y [], f64sLe-nil, append-nil, f64Le-is x, f64Le-is y)
 point-bytes k (x ∷ y ∷ w ∷ xy) zs ms e f g = absurd (omega arith)
 
 given : (flag : Bool) → cond flag 4 0 + cond flag 4 0 ≡ 8 * cond flag 1 0
@@ -56,12 +56,12 @@ module _ (k : Kind) (b : BBoxZ) (counts : List ℕ) (xy zs ms : List Float) wher
 
     -- what the point's writer asks
     pub point-room : k .parts ≡ false → (length xy ≡ 2) × (16 + 8 * length zs + 8 * length ms ≤ bytes)
-    unfolding contentWords fixedWords pointWords
     point-room e =
         let x : length xy ≡ 2 = rw e at (all .xy-has) in
         let z : length zs ≡ cond (k .z) 1 0 = rw e at (all .zs-has) in
         let m : length ms ≡ cond (k .m) 1 0 = rw e at (all .ms-has) in
         let w : 2 * contentWords onePoint (k .z) (k .m) (length counts) 1 ≤ 4 + bytes = rw e at (r .room) in
+        let v : 2 * (10 + cond (k .z) 4 0 + cond (k .m) 4 0 + 2 * length counts + 0 * 1) ≤ 4 + bytes = rw (words-are, fixed-point, each-point) at w in
         (x, omega (arith, given (k .z), given (k .m)))
 
     pub point-body : k .parts ≡ false → f64sLe xy ++ (f64sLe zs ++ f64sLe ms) ≡ shapeBytes (shapeBy k b counts xy zs ms)
@@ -77,19 +77,13 @@ module _ (k : Kind) (b : BBoxZ) (counts : List ℕ) (xy zs ms : List Float) wher
 
   module _ (out : List ℕ) (r : Ready k counts xy zs ms (length out)) (e : k .parts ≡ true) where
     gives-all : layoutOf (k .z) (k .m) counts xy zs ms (length out) ≡ gives (bodySize (k .z) (k .m) (length counts) (sum counts))
-    unfolding layoutOf bodySize
-    gives-all =
-        let a : agree (k .z) (k .m) counts xy zs ms ≡ true = rw e at (r .agrees) in
-        let w : 2 * contentWords parts (k .z) (k .m) (length counts) (sum counts) ≤ 4 + length out = rw e at (r .room) in
-        let h : 2 * contentWords parts (k .z) (k .m) (length counts) (sum counts) - 4 ≤ length out = omega arith in
-        rw (a, r .counts-held, le-leb _ _ h)
+    gives-all = all-pass (k .z) (k .m) counts xy zs ms (length out) (rw e at (r .agrees)) (r .counts-held) (rw e at (r .room))
 
     pub parts-body : (answer : LayoutAnswer) (out′ : List ℕ) → WritesBody (k .z) (k .m) b counts xy zs ms out answer out′ → out′ ≡ sets out 0 (shapeBytes (shapeBy k b counts xy zs ms))
-    unfolding shapeBytes
     parts-body answer out′ h =
         h .out-is
         ∙ (ap (λ (s : Said ℕ). unlessRefused s out (sets out 0 (partsBytes (partsOf (k .z) (k .m) b counts xy zs ms)))) (h .says ∙ gives-all)
-        ∙ rw e)
+        ∙ rw (e, shape-parted))
 
     -- as the writer of a layout says it, of the flags and the tables that it was given
     pub layout-body : (z m : Bool) (zs′ ms′ : List Float) → k .z ≡ z → k .m ≡ m → zs ≡ zs′ → ms ≡ ms′ → (answer : LayoutAnswer) (out′ : List ℕ) → WritesBody z m b counts xy zs′ ms′ out answer out′ → out′ ≡ sets out 0 (shapeBytes (shapeBy k b counts xy zs ms))
@@ -97,17 +91,8 @@ module _ (k : Kind) (b : BBoxZ) (counts : List ℕ) (xy zs ms : List Float) wher
 
 -- ---- the record
 
-least : (a b c : ℕ) → 2 ≤ a → 2 ≤ a + b + c
-least a b c h = omega arith
-
 pub words-least : (k : Kind) (counts : List ℕ) → 2 ≤ wordsBy k counts
-unfolding contentWords fixedWords
-words-least k counts = go (k .parts) refl
-  where
-    go : (p : Bool) → k .parts ≡ p → 2 ≤ wordsBy k counts
-    go true e = rw e (least _ _ _ (omega arith))
-    go false e = rw e (least _ _ _ (omega arith))
+words-least k counts = least-words (formBy k) (k .z) (k .m) (length counts) (pointsBy k counts)
 
 pub record-is : (k : Kind) (s : Shape) (n w : ℕ) (content : Words) (code : ℤ) → content ≡ wordsOf w → shapeWords s ≡ w → code ≡ pos (k .code) → twoBig n (ofZ w32 (content .0)) ++ (little (ofZ w32 code) ++ shapeBytes s) ≡ recordBytes k n s
-unfolding recordBytes Encoding.content
-record-is k s n w content code e f g = rw (e, g, f)
+record-is k s n w content code e f g = rw (e, g, Equations.record-is, content-bytes, f)

@@ -1,6 +1,6 @@
 -- Laws of the judge of state and kind: which test each of its answers is about.
 use mathlib.Core.Path.{_≡_, refl, sym, ap, _∙_}
-use mathlib.Core.Bool.{Bool, true, false, cond, _||_}
+use mathlib.Core.Bool.{true, false, _||_}
 use mathlib.Core.Option.{Option, none, some}
 use Prim.Native.Nat.{ℕ, _^_, _<_}
 use native.Mathlib.Omega.{arith}
@@ -13,16 +13,17 @@ use borrow.Author.Tests.{eq-eqb, ne-eqb}
 use Rattle.format.specs.declared.kinds.Kind.{Kind}
 use Rattle.format.specs.declared.lengths.Formula.{Formula}
 use Rattle.format.specs.Kinds.{known, kindAt}
-use Rattle.format.specs.Lengths.{Form, nothing, onePoint, parts, formOf, formula, formAt}
+use Rattle.format.specs.Lengths.{Form, formOf, formula, formAt}
 use Rattle.format.specs.Shapes.{there}
 use Rattle.format.specs.Units.{sameInt}
-use Rattle.format.proofs.KindLaws.{code-is}
+use Rattle.format.proofs.KindLaws.{code-is, known-there}
+use Rattle.format.proofs.LengthLaws.{form-by}
 use Rattle.writer.specs.declared.State.{State}
 use Rattle.writer.specs.declared.AddAnswer.the-variants.{Size, Unknown, NotTaken, Mismatch}
 use Rattle.writer.specs.declared.states.Looked.the-variants as LookedIs
 use Rattle.writer.specs.Judging.{byForm, byKind, lookUp, formBy, OfCode, KindFine, KindRefused}
 use Rattle.writer.specs.State.{isZero, stateFine}
-use Rattle.writer.proofs.KindLaws.{known-is, isTaken, taken-is, looked-kind}
+use Rattle.writer.proofs.KindLaws.{isTaken, taken-is, looked-kind}
 
 -- ---- numbers by their bits
 
@@ -40,21 +41,13 @@ looked-form : (k : Kind) (f : Formula) (o : Option Form) → byForm k o ≡ Look
 looked-form k f none e = absurd (let z : _≡_ {A = ℕ} 0 1 = cc in omega arith)
 looked-form k f (some form) e = (form, refl, cc)
 
-form-by : (a z p : Bool) (form : Form) → z ≡ false → cond a none (cond z (some nothing) (cond p (some parts) (some onePoint))) ≡ some form → form ≡ cond p parts onePoint
-form-by true z p form h e = absurd (let q : _≡_ {A = ℕ} 0 1 = cc in omega arith)
-form-by false true p form h e = absurd (let q : _≡_ {A = ℕ} 0 1 = cc in omega arith)
-form-by false false true form h e = cc
-form-by false false false form h e = cc
-
 form-of : (k : Kind) (form : Form) → (k .code ≡ 0 → ⊥) → formOf k ≡ some form → form ≡ formBy k
-unfolding formOf
-form-of k form h e =
-    form-by (eqb (k .code) 8 || eqb (k .code) 18 || eqb (k .code) 28 || eqb (k .code) 31) (eqb (k .code) 0) (k .parts) form (ne-eqb (k .code) 0 h) e
+form-of k form h e = form-by k form e ∙ rw (ne-eqb (k .code) 0 h)
 
 module _ (code : ℤ) where
   none-known : lookUp code ≡ LookedIs.Unknown → known code ≡ false
   unfolding lookUp
-  none-known e = known-is code ∙ go (kindAt code) e
+  none-known e = known-there code ∙ go (kindAt code) e
     where
       by : (k : Kind) (o : Option Form) → byForm k o ≡ LookedIs.Unknown → true ≡ false
       by k none q = cc
@@ -66,7 +59,7 @@ module _ (code : ℤ) where
 
   not-known : lookUp code ≡ LookedIs.NotTaken → known code ≡ true
   unfolding lookUp
-  not-known e = known-is code ∙ go (kindAt code) e
+  not-known e = known-there code ∙ go (kindAt code) e
     where
       go : (o : Option Kind) → byKind o ≡ LookedIs.NotTaken → there o ≡ true
       go none q = cc
@@ -80,7 +73,7 @@ module _ (code : ℤ) where
     here = looked-kind code k f e
 
     is-known : known code ≡ true
-    is-known = known-is code ∙ ap there here
+    is-known = known-there code ∙ ap there here
 
     is-taken : there (formAt code) ≡ true
     is-taken = taken-is code ∙ ap isTaken e

@@ -1,7 +1,7 @@
 -- Laws of the kind that a code has: the table's row with the code, the kind's form, and its formula.
 use mathlib.Core.Path.{_≡_, refl, sym, ap, _∙_}
 use mathlib.Core.Bool.{Bool, true, false}
-use mathlib.Core.Option.{Option, none, some, Option·map}
+use mathlib.Core.Option.{Option, none, some}
 use Prim.Native.Nat.{ℕ}
 use native.Mathlib.Omega.{arith}
 use lib.IntN.{ℤ}
@@ -10,51 +10,37 @@ use Rattle.format.specs.declared.kinds.Found.the-variants as FoundIs
 use Rattle.format.specs.declared.lengths.Formula.{Formula}
 use Rattle.format.specs.declared.lengths.Lengths.{Lengths}
 use Rattle.format.specs.declared.lengths.Content.the-variants as ContentIs
-use Rattle.format.specs.Kinds.{found, kindOf, isKind, known, kindAt}
-use Rattle.format.specs.Lengths.{Form, formOf, lengthsFor, lengthsOf, taken, contentOf, formAt}
+use Rattle.format.specs.Kinds.{kindOf, kindAt}
+use Rattle.format.specs.Lengths.{Form, formOf, contentOf, formAt}
 use Rattle.format.specs.Shapes.{there}
-use Rattle.format.proofs.KindLaws.{found-some, found-none}
-use Rattle.format.proofs.LengthLaws.{content-is}
+use Rattle.format.proofs.KindLaws.{kind-found, none-found}
+use Rattle.format.proofs.LengthLaws.{lengths-form, content-none, content-some}
 use Rattle.writer.specs.declared.states.Looked.{Looked}
 use Rattle.writer.specs.declared.states.Looked.the-variants as LookedIs
 use Rattle.writer.specs.Judging.{byForm, byKind, lookUp}
 
 -- ---- what the lookups of the table find
 
-pub known-is : (z : ℤ) → known z ≡ there (kindAt z)
-unfolding known kindOf
-known-is z = go (kindAt z)
-  where
-    go : (o : Option Kind) → isKind (found o) ≡ there o
-    go none = refl
-    go (some k) = refl
-
--- by the kind's form
-by-content : (k : Kind) (o : Option Form) → taken (Option·map (lengthsFor k) o) ≡ ContentIs.NotTaken → LookedIs.NotTaken ≡ byForm k o
-by-content k none e = refl
-by-content k (some form) e = absurd (let z : _≡_ {A = ℕ} 0 1 = cc in omega arith)
-
-by-lengths : (k : Kind) (o : Option Form) (l : Lengths) → taken (Option·map (lengthsFor k) o) ≡ ContentIs.Taken l → LookedIs.Taken k (l .with) ≡ byForm k o
-by-lengths k none l e = absurd (let z : _≡_ {A = ℕ} 0 1 = cc in omega arith)
-by-lengths k (some form) l e = let q : lengthsFor k form ≡ l = cc in ap (λ (x : Lengths). LookedIs.Taken k (x .with)) (sym q)
-
 module _ (z : ℤ) where
   pub look-unknown : kindOf z ≡ FoundIs.Unknown → LookedIs.Unknown ≡ lookUp z
-  unfolding lookUp kindOf
-  look-unknown e = ap byKind (sym (found-none (kindAt z) e))
+  unfolding lookUp
+  look-unknown e = ap byKind (sym (none-found z e))
 
   module _ (k : Kind) (e : kindOf z ≡ FoundIs.Is k) where
     here : kindAt z ≡ some k
-    unfolding kindOf
-    here = found-some (kindAt z) k e
+    here = kind-found z k e
+
+    by-form : (o : Option Form) → formOf k ≡ o → byForm k o ≡ lookUp z
+    unfolding lookUp
+    by-form o f = sym (ap byKind here ∙ ap (byForm k) f)
 
     pub look-not : contentOf (k .code) ≡ ContentIs.NotTaken → LookedIs.NotTaken ≡ lookUp z
-    unfolding lookUp lengthsOf
-    look-not c = by-content k (formOf k) (sym (content-is z k here) ∙ c) ∙ ap byKind (sym here)
+    look-not c = by-form none (content-none k z here c)
 
     pub look-taken : (l : Lengths) → contentOf (k .code) ≡ ContentIs.Taken l → LookedIs.Taken k (l .with) ≡ lookUp z
-    unfolding lookUp lengthsOf
-    look-taken l c = by-lengths k (formOf k) l (sym (content-is z k here) ∙ c) ∙ ap byKind (sym here)
+    look-taken l c =
+        let f = lengths-form k l (content-some k z here l c) in
+        ap (λ (x : Lengths). LookedIs.Taken k (x .with)) (f .2) ∙ by-form (some (f .0)) (f .1)
 
 -- ---- what a lookup says of the code
 

@@ -3,11 +3,12 @@ mod AddLaws
 mod BodyLaws
 mod BoxLaws
 pub mod Determined
-mod FinishLaws
 mod JudgeLaws
 pub mod KindLaws
 mod LengthLaws
 pub mod Numbered
+
+pub mod NextLaws
 mod PassLaws
 pub mod ShapeLaws
 pub mod StateLaws

@@ -1,8 +1,8 @@
 -- Laws of the shape that is lent, by the kind that was found: its form, its words, and the tests of it.
-use mathlib.Core.Path.{_≡_, refl, ap, subst}
+use mathlib.Core.Path.{_≡_, refl, sym, ap, _∙_, subst}
 use mathlib.Core.Bool.{Bool, true, false, cond, _&&_, _||_}
 use mathlib.Core.List.{List, [], _∷_}
-use Prim.Native.Nat.{ℕ, _*_, _^_}
+use Prim.Native.Nat.{ℕ, _^_}
 use native.Mathlib.Omega.{arith}
 use lib.Dec.{T, eqb, ltb}
 use lib.Ieee.{Float}
@@ -11,17 +11,32 @@ use borrow.Author.Tests.{eqb-true}
 use Rattle.format.specs.declared.kinds.Kind.{Kind}
 use Rattle.format.specs.Encoding.{shapeWords}
 use Rattle.format.specs.Kinds.{kindOr}
-use Rattle.format.specs.Lengths.{onePoint, parts, formula, contentWords, formulaWords}
-use Rattle.format.specs.Shapes.{there, sum}
+use Rattle.format.specs.Lengths.{nothing, onePoint, parts, formula, contentWords, formulaWords}
+use Rattle.format.specs.Shapes.{null, parted, there}
+use Rattle.format.proofs.Equations as Equations
+use Rattle.format.proofs.Equations.{words-point}
 use Rattle.header.specs.declared.bbox.BBoxZ.{BBoxZ}
 use Rattle.layouts.specs.Answers.{countsHeld}
 use Rattle.layouts.specs.Steps.{Agreed}
-use Rattle.layouts.specs.Tables.{pointsOf, measureOf, partsOf}
-use Rattle.layouts.proofs.TableLaws.{length-points, split-length, split-whole, agreed}
+use Rattle.layouts.specs.Tables.{partsOf}
+use Rattle.layouts.proofs.TableLaws.{parts-words, agreed}
 use Rattle.writer.specs.Adding.{Lent, formOr, lentKind, lentForm, valueOf, pointShape, lentShape, lentAgree}
 use Rattle.writer.specs.Judging.{OfCode, formBy, pointsBy, agreeBy, shapeBy, wordsBy}
 
--- ---- what is lent, by its kind
+-- ---- what is lent, by its form and by its kind
+
+module _ (t : Lent) where
+  pub lent-nothing : lentForm t ≡ nothing → lentShape t ≡ null
+  unfolding lentShape
+  lent-nothing e = rw e
+
+  pub lent-point : lentForm t ≡ onePoint → lentShape t ≡ pointShape (lentKind t) (t .xy) (t .zs) (t .ms)
+  unfolding lentShape
+  lent-point e = rw e
+
+  pub lent-parts : lentForm t ≡ parts → lentShape t ≡ parted (partsOf (lentKind t .z) (lentKind t .m) (t .box) (t .counts) (t .xy) (t .zs) (t .ms))
+  unfolding lentShape
+  lent-parts e = rw e
 
 module _ (t : Lent) (k : Kind) (o : OfCode (t .code) k) where
   pub lent-kind : lentKind t ≡ k
@@ -38,12 +53,11 @@ module _ (t : Lent) (k : Kind) (o : OfCode (t .code) k) where
       go false e = rw (o .form-is, e, o .kind-is)
 
   pub shape-is : lentShape t ≡ shapeBy k (t .box) (t .counts) (t .xy) (t .zs) (t .ms)
-  unfolding lentShape
   shape-is = go (k .parts) refl
     where
       go : (p : Bool) → k .parts ≡ p → lentShape t ≡ shapeBy k (t .box) (t .counts) (t .xy) (t .zs) (t .ms)
-      go true e = rw (o .form-is, e, o .kind-is)
-      go false e = rw (o .form-is, e, o .kind-is)
+      go true e = lent-parts t (rw e at lent-form) ∙ rw (e, o .kind-is)
+      go false e = lent-point t (rw e at lent-form) ∙ rw (e, o .kind-is)
 
 -- ---- tables that agree
 
@@ -64,26 +78,15 @@ module _ (k : Kind) (counts : List ℕ) (xy zs ms : List Float) (e : agreeBy k c
 
 -- ---- the words of the shape
 
-pub there-measure : (flag : Bool) (low high : Float) (vs : List Float) → there (measureOf flag low high vs) ≡ flag
-there-measure true low high vs = refl
-there-measure false low high vs = refl
-
 pub there-value : (flag : Bool) (vs : List Float) → length vs ≡ cond flag 1 0 → there (valueOf flag vs) ≡ flag
 there-value true [] e = absurd (omega arith)
 there-value true (x ∷ vs) e = refl
 there-value false vs e = refl
 
-parts-words : (z m : Bool) (b : BBoxZ) (counts : List ℕ) (xy zs ms : List Float) → length xy ≡ 2 * sum counts → shapeWords (Rattle.format.specs.Shapes.parted (partsOf z m b counts xy zs ms)) ≡ contentWords parts z m (length counts) (sum counts)
-unfolding shapeWords partsOf
-parts-words z m b counts xy zs ms e =
-    let n : sum counts ≡ length (pointsOf xy) = omega (arith, length-points xy) in
-    rw (there-measure z (b .zmin) (b .zmax) zs, there-measure m (b .mmin) (b .mmax) ms, split-length counts (pointsOf xy), split-whole counts (pointsOf xy) n, n)
-
 point-words : (k : Kind) (xy zs ms : List Float) → length xy ≡ 2 → length zs ≡ cond (k .z) 1 0 → length ms ≡ cond (k .m) 1 0 → shapeWords (pointShape k xy zs ms) ≡ contentWords onePoint (k .z) (k .m) 0 1
-unfolding shapeWords
 point-words k [] zs ms e f g = absurd (omega arith)
 point-words k (x ∷ []) zs ms e f g = absurd (omega arith)
-point-words k (x ∷ y ∷ xy) zs ms e f g = rw (there-value (k .z) zs f, there-value (k .m) ms g)
+point-words k (x ∷ y ∷ xy) zs ms e f g = rw (words-point, there-value (k .z) zs f, there-value (k .m) ms g)
 
 module _ (k : Kind) (b : BBoxZ) (counts : List ℕ) (xy zs ms : List Float) (e : agreeBy k counts xy zs ms ≡ true) where
   pub words-are : shapeWords (shapeBy k b counts xy zs ms) ≡ wordsBy k counts
@@ -101,5 +104,4 @@ module _ (k : Kind) (b : BBoxZ) (counts : List ℕ) (xy zs ms : List Float) (e :
       go false q = rw (q, no-parts k counts xy zs ms e q)
 
 pub formula-words : (k : Kind) (counts : List ℕ) → formulaWords (formula (formBy k) (k .z) (k .m)) (length counts) (pointsBy k counts) ≡ wordsBy k counts
-unfolding contentWords
-formula-words k counts = refl
+formula-words k counts = sym (Equations.words-are (formBy k) (k .z) (k .m) (length counts) (pointsBy k counts))

@@ -14,14 +14,14 @@ use Rattle.format.specs.declared.lengths.Formula.{Formula}
 use Rattle.format.specs.Kinds.{known, kindAt}
 use Rattle.format.specs.Lengths.{formAt}
 use Rattle.format.specs.Shapes.{there}
-use Rattle.format.proofs.KindLaws.{code-is}
+use Rattle.format.proofs.KindLaws.{code-is, known-there}
 use Rattle.format.proofs.OrderLaws.{both-true}
 use Rattle.writer.specs.declared.State.{State}
 use Rattle.writer.specs.declared.states.Looked.{Looked}
 use Rattle.writer.specs.declared.states.Looked.the-variants.{Taken}
 use Rattle.writer.specs.Judging.{naturalOf, byKind, lookUp, countsFine}
 use Rattle.writer.specs.State.{atLeast, isZero, stateFine}
-use Rattle.writer.proofs.KindLaws.{known-is, isTaken, taken-is, looked-kind}
+use Rattle.writer.proofs.KindLaws.{isTaken, taken-is, looked-kind}
 
 -- ---- a number, or 0 for one below
 
@@ -107,7 +107,7 @@ fine s e =
       number-least = n .1;
       room = leb-true _ _ (p3 .1);
       kind-is = k;
-      kind-known = sym (ap known k) ∙ (known-is (s .kind) ∙ some-kind (kindAt (s .kind)) (sym (taken-is (s .kind)) ∙ p2 .1));
+      kind-known = sym (ap known k) ∙ (known-there (s .kind) ∙ some-kind (kindAt (s .kind)) (sym (taken-is (s .kind)) ∙ p2 .1));
     }
 
 -- its numbers without their signs, and the words of its index

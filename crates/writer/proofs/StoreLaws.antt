@@ -2,19 +2,16 @@
 use mathlib.Core.Path.{_≡_, refl, sym, ap, _∙_}
 use mathlib.Core.List.{List, [], _∷_, _++_, append-nil}
 use Prim.Native.Nat.{ℕ, zero, suc, _+_, _*_, _-_}
-use native.Mathlib.Nat.{le-of-eq, zero-add}
+use native.Mathlib.Nat.{le-of-eq}
 use native.Mathlib.Omega.{arith}
 use lib.Ieee.{Float}
-use lib.IntN.{ℤ}
 use lib.ListN.{length, take, drop, set, length-drop}
 use lib.Seq.{sets, take-all, drop-length}
-use mir.Syntax.{w32}
-use mir.Val.{ofZ}
 use borrow.Rule.Slice.PartMut.{midOf, putMid}
 use Rattle.format.specs.Encoding.{twoBig}
-use Rattle.format.specs.Numbers.{big, little, i32Be, f64sLe}
-use Rattle.format.proofs.LayoutLaws.{sets-append}
-use Rattle.format.proofs.NumberLaws.{length-big, length-little, length-two, length-f64sLe}
+use Rattle.format.specs.Numbers.{little, f64sLe}
+use Rattle.format.proofs.LayoutLaws.{onto}
+use Rattle.format.proofs.NumberLaws.{length-little, length-two, length-f64sLe}
 
 -- ---- a tail
 
@@ -51,31 +48,12 @@ tail-stored a xs ys vs h =
 
 -- ---- fields in turn
 
-pub two-stored : (out l m : List ℕ) (a b : ℤ) → l ≡ sets out 0 (i32Be a) → m ≡ sets l 4 (i32Be b) → m ≡ sets out 0 (twoBig (ofZ w32 a) (ofZ w32 b))
-unfolding twoBig i32Be
-two-stored out l m a b e f =
-    f
-    ∙ (ap (λ (x : List ℕ). sets x 4 (big (ofZ w32 b))) e
-    ∙ (ap (λ (n : ℕ). sets (sets out 0 (big (ofZ w32 a))) n (big (ofZ w32 b))) (sym (zero-add (length (big (ofZ w32 a))) ∙ length-big (ofZ w32 a)))
-    ∙ sym (sets-append (big (ofZ w32 a)) (big (ofZ w32 b)) out 0)))
-
 pub point-stored : (out l m r : List ℕ) (xy zs ms : List Float) → length xy ≡ 2 → l ≡ sets out 0 (f64sLe xy) → m ≡ sets l 16 (f64sLe zs) → r ≡ sets m (16 + 8 * length zs) (f64sLe ms) → r ≡ sets out 0 (f64sLe xy ++ (f64sLe zs ++ f64sLe ms))
 point-stored out l m r xy zs ms h e f g =
-    let x = f64sLe xy in
-    let z = f64sLe zs in
-    let p : 16 ≡ 0 + length x = omega (arith, length-f64sLe xy) in
-    let q : 16 + 8 * length zs ≡ 16 + length z = omega (arith, length-f64sLe zs) in
-    g
-    ∙ (rw (f, e, q) (sym (sets-append z (f64sLe ms) (sets out 0 x) 16))
-    ∙ (ap (λ (n : ℕ). sets (sets out 0 x) n (z ++ f64sLe ms)) p
-    ∙ sym (sets-append x (z ++ f64sLe ms) out 0)))
+    onto out l r (f64sLe xy) (f64sLe zs ++ f64sLe ms) 0 16 (omega (arith, length-f64sLe xy)) e
+    (onto l m r (f64sLe zs) (f64sLe ms) 16 (16 + 8 * length zs) (omega (arith, length-f64sLe zs)) f g)
 
 pub record-stored : (out l m r : List ℕ) (a b c : ℕ) (body : List ℕ) → l ≡ sets out 0 (twoBig a b) → m ≡ sets l 8 (little c) → r ≡ sets m 12 body → r ≡ sets out 0 (twoBig a b ++ (little c ++ body))
 record-stored out l m r a b c body e f g =
-    let h = twoBig a b in
-    let p : 8 ≡ 0 + length h = omega (arith, length-two a b) in
-    let q : 12 ≡ 8 + length (little c) = omega (arith, length-little c) in
-    g
-    ∙ (rw (f, e) (ap (λ (n : ℕ). sets (sets (sets out 0 h) 8 (little c)) n body) q ∙ sym (sets-append (little c) body (sets out 0 h) 8))
-    ∙ (ap (λ (n : ℕ). sets (sets out 0 h) n (little c ++ body)) p
-    ∙ sym (sets-append h (little c ++ body) out 0)))
+    onto out l r (twoBig a b) (little c ++ body) 0 8 (omega (arith, length-two a b)) e
+    (onto l m r (little c) body 8 12 (omega (arith, length-little c)) f g)

@@ -1,6 +1,6 @@
 -- Tables that the writer took: their kind is a taken one with their code, and they agree.
 use mathlib.Core.Path.{_≡_, refl}
-use mathlib.Core.Bool.{true, false, not}
+use mathlib.Core.Bool.{true, false}
 use mathlib.Core.Option.{Option, none, some}
 use Prim.Native.Nat.{ℕ}
 use native.Mathlib.Omega.{arith}
@@ -11,11 +11,10 @@ use Rattle.format.specs.Lengths.{Form, formOf, formAt}
 use Rattle.format.specs.Said.{gives}
 use Rattle.format.specs.Shapes.{there}
 use Rattle.format.proofs.KindLaws.{code-is}
-use Rattle.format.proofs.OrderLaws.{both-true, passed}
 use Rattle.rules.specs.Meaning.{TakenKind}
 use Rattle.writer.specs.declared.State.{State}
-use Rattle.writer.specs.Adding.{Lent, lentKind, lentForm, lentAgree, recordSize, addTests, addingOf}
-use Rattle.writer.specs.State.{isZero}
+use Rattle.writer.specs.Adding.{Lent, lentKind, lentForm, lentAgree, addingOf}
+use Rattle.writer.proofs.NextLaws.{added}
 
 pub record Accepted (t : Lent) : Type 0 where
   pub taken : TakenKind (lentKind t)
@@ -42,7 +41,6 @@ found t h agrees = go (kindAt (t .code)) refl h
             }
 
 pub accepted : (s : State) (t : Lent) (out start entry n : ℕ) → addingOf s t out start entry ≡ gives n → Accepted t
-unfolding addingOf
 accepted s t out start entry n e =
-    let ok = passed (recordSize t) n (addTests s t out start entry) tt e in
-    found t (both-true (there (formAt (t .code))) (not (isZero (t .code))) (ok 2) .0) (ok 4)
+    let a = added s t out start entry n e in
+    found t (a .0) (a .1)

@@ -2,17 +2,16 @@
 use mathlib.Core.Path.{_≡_, refl, sym, ap, _∙_}
 use mathlib.Core.Bool.{Bool, true, false, cond}
 use mathlib.Core.List.{List, [], _∷_, map}
-use Prim.Native.Nat.{ℕ, zero, suc, _%_, _^_, _≤_, _<_}
+use Prim.Native.Nat.{ℕ, zero, suc, _%_, _^_, _<_}
 use native.Mathlib.Omega.{arith}
 use lib.Dec.{T}
 use lib.Ieee.{Float, binary64, fits}
 use lib.Ieee.Bits.{ofBits-toBits, toBits-lt}
-use lib.ListN.{length, drop, length-drop}
-use lib.Seq.{length-take-le}
+use lib.ListN.{length}
 use Rattle.format.specs.Bytes.{Fit}
-use Rattle.format.specs.Shapes.{Point, Covers, OnlyIf, sum}
+use Rattle.format.specs.Shapes.{Covers, OnlyIf}
 use Rattle.format.specs.WellFormed.{coordinates}
-use Rattle.layouts.specs.Tables.{bits, pointsOf, splitBy, measureOf}
+use Rattle.layouts.specs.Tables.{bits, pointsOf, measureOf}
 use Rattle.writer.specs.Adding.{valueOf}
 use Rattle.writer.proofs.ShapeLaws.{empty}
 use Rattle.readback.specs.Held.{valueHeld, measureHeld}
@@ -42,19 +41,12 @@ length-bits : (xs : List Float) → length (map bits xs) ≡ length xs
 length-bits [] = refl
 length-bits (x ∷ xs) = omega (arith, length-bits xs)
 
--- ---- points and parts
+-- ---- points
 
 pub coordinates-are : (xy : List Float) → length xy % 2 ≡ 0 → coordinates (pointsOf xy) ≡ map bits xy
 coordinates-are [] e = refl
 coordinates-are (x ∷ []) e = absurd (omega arith)
 coordinates-are (x ∷ y ∷ xy) e = ap (λ (l : List ℕ). bits x ∷ bits y ∷ l) (coordinates-are xy (omega arith))
-
-pub split-counts : (counts : List ℕ) (ps : List Point) → sum counts ≡ length ps → map length (splitBy counts ps) ≡ counts
-unfolding splitBy
-split-counts [] ps e = refl
-split-counts (n ∷ ns) ps e =
-    let k : n ≤ length ps = omega arith in
-    rw (length-take-le n ps k) (ap (_∷_ n) (split-counts ns (drop n ps) (rw length-drop (omega arith))))
 
 -- ---- z or m, where the flag gives it
 

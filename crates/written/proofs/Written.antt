@@ -7,27 +7,28 @@ use Prim.Native.Nat.{ℕ, _≤_}
 use native.Mathlib.Omega.{arith}
 use lib.Dec.{eqb}
 use lib.IntN.{natAbs}
-use lib.ListN.{length}
+use lib.ListN.{length, drop}
 use lib.Seq.{drop-at}
-use Rattle.format.specs.Encoding.{twoBig, recordBytes, content, shapeWords}
+use Rattle.format.specs.Encoding.{twoBig, content, shapeWords}
 use Rattle.format.specs.Lengths.{Form, nothing, onePoint}
 use Rattle.format.specs.Lengths
 use Rattle.format.specs.Said.{gives}
 use Rattle.format.specs.Shapes.{Point, Measure, Parts, Shape, point, parted, there, OfKind, sum}
 use Rattle.format.specs.WellFormed
+use Rattle.format.proofs.Equations.{record-is}
 use Rattle.format.proofs.NumberLaws.{length-two}
 use Rattle.multipart.specs.Body.{raised}
 use Rattle.layouts.specs.Steps.{Agreed}
-use Rattle.layouts.specs.Tables.{bits, pointsOf, splitBy, measureOf, partsOf}
-use Rattle.layouts.proofs.TableLaws.{agreed, length-points, split-length, split-whole}
+use Rattle.layouts.specs.Tables.{bits, pointsOf, splitBy, measureOf, boxOf}
+use Rattle.layouts.proofs.TableLaws.{agreed, length-points, split-length, split-whole, split-counts, parts-are, there-measure}
 use Rattle.writer.specs.Adding.{Lent, lentKind, lentForm, valueOf, pointShape, lentShape}
-use Rattle.writer.proofs.ShapeLaws.{there-measure, there-value}
+use Rattle.writer.proofs.ShapeLaws.{lent-nothing, lent-point, lent-parts, there-value}
 use Rattle.readback.specs.Held.{Held}
 use Rattle.readback.specs.ReadBack.{value, shapedAs, Roomy, StoresShape}
 use Rattle.readback.proofs.ReadsBack.{reads-back}
 use Rattle.written.specs.Written.{Typed, valueAt, shapedBy, Room, TablesIn, written, ReadsWritten}
 use Rattle.written.proofs.Accepted.{Accepted, accepted}
-use Rattle.written.proofs.Tables.{back, held, all-back, all-held, coordinates-are, split-counts, only-if, range-is, measure-held, covers, values-are, double-at, points-one, value-held, value-is}
+use Rattle.written.proofs.Tables.{back, held, all-back, all-held, coordinates-are, only-if, range-is, measure-held, covers, values-are, double-at, points-one, value-held, value-is}
 
 -- what the theorem needs of the shape that was lent, where its form is this one
 record Fine (t : Lent) (form : Form) (s : Shape) : Type 0 where
@@ -43,9 +44,6 @@ has-room false n have store e h f = absurd (let z : _≡_ {A = ℕ} 0 1 = cc in 
 
 module _ (t : Lent) (a : Accepted t) (d : Typed t) where
   module _ (form : lentForm t ≡ Lengths.parts) where
-    abbrev shape : Parts
-    shape = partsOf (lentKind t .z) (lentKind t .m) (t .box) (t .counts) (t .xy) (t .zs) (t .ms)
-
     agree : Agreed (lentKind t .z) (lentKind t .m) (sum (t .counts)) (t .xy) (t .zs) (t .ms)
     agree = agreed true (lentKind t .z) (lentKind t .m) (sum (t .counts)) (t .xy) (t .zs) (t .ms) (rw form at (a .agree)) .1
 
@@ -64,6 +62,12 @@ module _ (t : Lent) (a : Accepted t) (d : Typed t) where
     abbrev m : Option Measure
     m = measureOf (lentKind t .m) (t .box .mmin) (t .box .mmax) (t .ms)
 
+    abbrev shape : Parts
+    shape = record { box = boxOf (t .box); parts = splitBy (t .counts) (pointsOf (t .xy)); z = z; m = m }
+
+    shape-is : lentShape t ≡ parted shape
+    shape-is = lent-parts t form ∙ ap parted (parts-are (lentKind t .z) (lentKind t .m) (t .box) (t .counts) (t .xy) (t .zs) (t .ms))
+
     z-there : there z ≡ lentKind t .z
     z-there = there-measure (lentKind t .z) (t .box .zmin) (t .box .zmax) (t .zs)
 
@@ -71,7 +75,6 @@ module _ (t : Lent) (a : Accepted t) (d : Typed t) where
     m-there = there-measure (lentKind t .m) (t .box .mmin) (t .box .mmax) (t .ms)
 
     parts-room : (counts xy zs ms : ℕ) → Room t counts xy zs ms → Roomy (parted shape) counts xy zs ms
-    unfolding partsOf
     parts-room counts xy zs ms r =
         rw (split-length (t .counts) (pointsOf (t .xy)), whole, ← points, z-there, m-there) (
           r .for-counts,
@@ -81,7 +84,6 @@ module _ (t : Lent) (a : Accepted t) (d : Typed t) where
         )
 
     parts-stores : (bytes : List ℕ) → StoresShape (parted shape) bytes → TablesIn t bytes
-    unfolding partsOf
     parts-stores bytes st =
         let zs = values-are (t .box .zmin) (t .box .zmax) (t .zs) (sum (t .counts)) (lentKind t .z) (agree .zs-has) (d .zs) in
         let ms = values-are (t .box .mmin) (t .box .mmax) (t .ms) (sum (t .counts)) (lentKind t .m) (agree .ms-has) (d .ms) in
@@ -93,7 +95,6 @@ module _ (t : Lent) (a : Accepted t) (d : Typed t) where
         }
 
     parts-fine : Fine t Lengths.parts (parted shape)
-    unfolding partsOf
     parts-fine =
         let k = lentKind t in
         let b = t .box in
@@ -173,9 +174,8 @@ module _ (t : Lent) (a : Accepted t) (d : Typed t) where
         }
 
   all-fine : (form : Form) → lentForm t ≡ form → Fine t form (lentShape t)
-  unfolding lentShape
   all-fine nothing e =
-      rw e
+      rw (lent-nothing t e)
       (record {
         of-kind = rw e at (a .form);
         held = tt;
@@ -183,18 +183,17 @@ module _ (t : Lent) (a : Accepted t) (d : Typed t) where
         room = λ counts xy zs ms r. tt;
         stores = λ bytes f st. absurd (let z : _≡_ {A = ℕ} 0 1 = cc in omega arith);
       })
-  all-fine onePoint e = rw (e, one-is e) (point-fine e)
-  all-fine Lengths.parts e = rw e (parts-fine e)
+  all-fine onePoint e = rw (lent-point t e, one-is e) (point-fine e)
+  all-fine Lengths.parts e = rw (shape-is e) (parts-fine e)
 
 pub reads-written : ReadsWritten
-unfolding recordBytes
 reads-written s t out start entry n e d small =
     let k = lentKind t in
     let a = accepted s t out start entry n e in
     let fine = all-fine t a d (lentForm t) refl in
     let back = reads-back k (lentShape t) (a .taken) (fine .of-kind) (fine .held) small in
     let head : List ℕ = twoBig (natAbs (s .number)) (shapeWords (lentShape t)) in
-    let is : written s t ≡ content k (lentShape t) = drop-at head (content k (lentShape t)) 8 (length-two (natAbs (s .number)) (shapeWords (lentShape t))) in
+    let is : written s t ≡ content k (lentShape t) = ap (drop 8) (record-is k (natAbs (s .number)) (lentShape t)) ∙ drop-at head (content k (lentShape t)) 8 (length-two (natAbs (s .number)) (shapeWords (lentShape t))) in
     record {
       kind-is = rw is (back .kind-is);
       answer = λ counts xy zs ms r. rw is (back .answer counts xy zs ms (fine .room counts xy zs ms r) ∙ ap gives (fine .shaped));

@@ -8,10 +8,10 @@ use mir.Val.{SFits}
 use mir.ValLaws.{toZ-ofZ}
 use borrow.Author.Needs.{needs}
 use Rattle.format.specs.declared.units.Words.{Words}
+use Rattle.header.proofs.WrittenLaws.{header-is}
 use Rattle.writer.specs.Finishing.{shpHeader, shxHeader}
 use Rattle.writer.specs.Judging.{naturalOf}
 use Rattle.writer.specs.State.{stateFine}
-use Rattle.writer.proofs.FinishLaws.{header-is}
 use Rattle.writer.proofs.StateLaws.{Fine, fine, index-lt, number-natural}
 use Rattle.writer.proofs.finish.Statement.{statement}
 use Rattle.writer.proofs.finish.Tie as tie

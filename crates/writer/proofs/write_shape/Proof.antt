@@ -76,9 +76,6 @@ stayed = (stay-ref (0 ∷ []) tt (plain (λ _. State′.the-row)), (stay-none (�
 abbrev Callee : {M : Type 1} (𝓤 : URA M) (H : Heap 𝓤) (A : Atoms 𝓤) (mem : Memory → SProp 𝓤) (run : Routine → Fun 𝓤) → Contract 𝓤
 Callee 𝓤 H A mem run = tripleOf 𝓤 H A callee.signature (callee.spec 𝓤 H A mem run)
 
-abbrev Adding-val : Adding → Val
-Adding-val h = LL.tuple-val Adding′.the-type Adding″.the-laws (Adding′.the-type .to h)
-
 abbrev BBoxZ-val : BBoxZ → Val
 BBoxZ-val h = LL.tuple-val BBoxZ′.the-type BBoxZ″.the-laws (BBoxZ′.the-type .to h)
 

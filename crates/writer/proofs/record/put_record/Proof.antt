@@ -9,7 +9,8 @@ use mir.Val.{SFits, ofZ}
 use mir.ValLaws.{toZ-ofZ}
 use borrow.Author.Needs.{needs}
 use Rattle.format.specs.Encoding.{shapeBytes, twoBig}
-use Rattle.format.specs.Numbers.{little, i32Le}
+use Rattle.format.specs.Numbers.{i32Le}
+use Rattle.format.proofs.Equations.{i32Le-is}
 use Rattle.writer.specs.Judging.{shapeBy, wordsBy}
 use Rattle.writer.proofs.BodyLaws.{words-least, record-is}
 use Rattle.writer.proofs.ShapeLaws.{words-are}
@@ -30,7 +31,6 @@ part-put-body-start : tie.Need-part-put-body-start
 part-put-body-start c = let s = c .before .before .before .before .before .before .before .before .before .before .before .before .before .before in omega (arith, words-least (s .args .k) (s .args .counts .now), s .pre .1 .0)
 
 returns : tie.Need-returns
-unfolding i32Le
 returns c =
     let r = c .before .before in
     let q = r .before .before .before .before in
@@ -43,7 +43,7 @@ returns c =
     let k = toZ-ofZ w32 _ (s .fits .code) in
     record-stored (a .out .now) (p .put-two .last .0) (q .put-le-i32 .last .0) _ (ofZ w32 (a .number)) (ofZ w32 (a .content .0)) (ofZ w32 (a .code)) (shapeBytes shape)
     (p .put-two .ensures ∙ (λ i. sets (a .out .now) 0 (twoBig (ofZ w32 (n i)) (ofZ w32 (w i)))))
-    (q .put-le-i32 .ensures ∙ (λ i. sets (p .put-two .last .0) 8 (little (ofZ w32 (k i)))))
+    (q .put-le-i32 .ensures ∙ ap (sets (p .put-two .last .0) 8) (ap i32Le k ∙ i32Le-is (a .code)))
     (tail-stored 12 (q .put-le-i32 .last .0) (r .put-body .last .0) (shapeBytes shape) (r .put-body .ensures))
     ∙ ap (λ (l : List ℕ). sets (a .out .now) 0 l)
     (record-is (a .k) shape (ofZ w32 (a .number)) (wordsBy (a .k) (a .counts .now)) (a .content) (a .code) (s .pre .1 .1 .1)

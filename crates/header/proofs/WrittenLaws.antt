@@ -1,4 +1,4 @@
--- Laws of finishing: the header's bytes by the numbers that went in.
+-- What is written of a header with version 1000 and a known kind: the paper's bytes, by the numbers that went in.
 use mathlib.Core.Path.{_≡_, ap, _∙_}
 use mathlib.Core.Bool.{Bool, true, cond}
 use Prim.Native.Nat.{ℕ}
