@@ -15,7 +15,7 @@ use lib.Signed.{ltZ}
 use borrow.Author.Tests.{ltb-true, eq-eqb, eqb-true, ne-eqb}
 use Rattle.format.specs.declared.kinds.Kind.{Kind}
 use Rattle.format.specs.declared.kinds.Found.the-variants.{Is, Unknown}
-use Rattle.format.specs.Kinds.{kinds, rowOf, kindAt, found, kindOf}
+use Rattle.format.specs.Kinds.{kinds, rowOf, kindAt, found, kindOf, known}
 use Rattle.format.proofs.OrderLaws.{both-true}
 
 -- with d for a row past the end: the search ends at row i, or goes on
@@ -68,6 +68,10 @@ found-some (some x) k e = cc
 pub found-none : (o : Option Kind) → found o ≡ Unknown → o ≡ none
 found-none none e = refl
 found-none (some x) e = cc
+
+pub known-some : (z : ℤ) (k : Kind) → kindAt z ≡ some k → known z ≡ true
+unfolding known kindOf
+known-some z k e = rw e
 
 pub kindOf-neg : (z : ℤ) → ltZ z (pos 0) ≡ true → kindOf z ≡ Unknown
 unfolding kindOf

@@ -1,10 +1,11 @@
 -- The laws of this crate's definitions, as the code meets them.
-mod BodyLaws
-mod CountLaws
+pub mod BodyLaws
+pub mod CountLaws
 pub mod Determined
 pub mod NearLaws
 mod PartLaws
 pub mod RestLaws
+pub mod StartLaws
 mod StoreLaws
 mod TestLaws
 mod WalkLaws

@@ -2,6 +2,6 @@
 pub mod Determined
 mod FrontLaws
 mod PartsLaws
-mod PointLaws
-mod ShapeLaws
+pub mod PointLaws
+pub mod ShapeLaws
 mod SizeLaws
