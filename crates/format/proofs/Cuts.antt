@@ -1,6 +1,6 @@
 -- A run of points cut into parts by where they end: what is cut and laid together again is as it was, and so are the ends and the starts.
 use mathlib.Core.Path.{_≡_, refl, sym, ap}
-use mathlib.Core.List.{List, [], _∷_, _++_, flatten}
+use mathlib.Core.List.{List, [], _∷_, _++_, flatten, map}
 use Prim.Native.Nat.{ℕ, suc, _+_, _-_, _^_, _≤_, _<_}
 use native.Mathlib.Nat.{add-zero}
 use native.Mathlib.Omega.{arith}
@@ -9,7 +9,7 @@ use lib.Seq.{length-take-le, take-at, drop-at}
 use Rattle.format.specs.declared.kinds.Kind.{Kind}
 use Rattle.format.specs.Bytes.{Fit}
 use Rattle.format.specs.Encoding.{startsFrom}
-use Rattle.format.specs.Shapes.{Point}
+use Rattle.format.specs.Shapes.{Point, sum}
 use Rattle.format.specs.WellFormed.{leastPoints, PartsFine}
 
 -- where each part ends, the first of them from point cur on
@@ -43,6 +43,12 @@ pub length-cut : (cur : ℕ) (es : List ℕ) (ps : List Point) → length (cut c
 unfolding cut
 length-cut cur [] ps = refl
 length-cut cur (e ∷ es) ps = ap suc (length-cut e es (drop (e - cur) ps))
+
+-- as many points as the parts have together
+pub sum-parts : (parts : List (List Point)) → sum (map length parts) ≡ length (flatten parts)
+unfolding flatten
+sum-parts [] = refl
+sum-parts (part ∷ parts) = omega (arith, length-append part (flatten parts), sum-parts parts)
 
 -- the starts, and the end behind them
 pub starts-ends : (cur : ℕ) (parts : List (List Point)) → startsFrom cur parts ++ ((cur + length (flatten parts)) ∷ []) ≡ cur ∷ endsFrom cur parts

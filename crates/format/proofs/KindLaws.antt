@@ -137,6 +137,10 @@ known-there z = go (kindAt z)
     go none = refl
     go (some k) = refl
 
+pub known-some : (z : ℤ) (k : Kind) → kindAt z ≡ some k → known z ≡ true
+unfolding known kindOf
+known-some z k e = rw e
+
 pub kindOf-neg : (z : ℤ) → ltZ z (pos 0) ≡ true → kindOf z ≡ Unknown
 unfolding kindOf
 kindOf-neg (pos n) e = absurd (not-suc-le-zero (ltb-true n 0 e))

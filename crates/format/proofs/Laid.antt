@@ -1,22 +1,25 @@
--- A shape's bytes as runs of numbers, and their length.
+-- A shape's bytes as runs of numbers, their length, and the kind's field in front of them.
 use mathlib.Core.Path.{_≡_, refl, sym}
 use mathlib.Core.Bool.{Bool, true, false}
 use mathlib.Core.List.{List, [], _∷_, _++_, map, flatten, append-nil, append-assoc}
 use mathlib.Core.Option.{Option, none, some}
-use Prim.Native.Nat.{ℕ, _+_, _*_}
+use Prim.Native.Nat.{ℕ, _+_, _*_, _^_, _<_}
 use native.Mathlib.Omega.{arith}
-use lib.ListN.{length, length-append}
+use lib.IntN.{pos}
+use lib.ListN.{length, drop, length-append}
+use lib.Seq.{drop-at}
 use Rattle.format.specs.declared.kinds.Kind.{Kind}
 use Rattle.format.specs.Bytes.{leBytes}
 use Rattle.format.specs.Encoding.{doubles, pointBytes, boxBytes, startsFrom, valueBytes, measureBytes, partsBytes, shapeBytes, content, shapeWords, recordBytes}
 use Rattle.format.specs.Lengths.{nothing, onePoint, fixedWords, pointWords, contentWords}
 use Rattle.format.specs.Lengths
-use Rattle.format.specs.Numbers.{little, double}
+use Rattle.format.specs.Numbers.{little, double, leI32}
 use Rattle.format.specs.Shapes.{Point, BoxXY, Measure, Parts, Shape, null, point, parted, there, Covers, PartsOf, OfKind}
 use Rattle.format.specs.WellFormed.{coordinates}
 use Rattle.format.proofs.ByteLaws.{length-leBytes}
 use Rattle.format.proofs.NumberLaws.{length-little, length-two}
-use Rattle.format.proofs.Runs.{run, run-append, length-run}
+use Rattle.format.proofs.Places.{in-front}
+use Rattle.format.proofs.Runs.{run, run-append, length-run, i32-back}
 use Rattle.format.proofs.Doubles.{value, measured, writeIf, RightIf, all, count, length-all}
 use Rattle.format.proofs.Cuts.{length-startsFrom}
 
@@ -83,19 +86,24 @@ pub point-laid : (xy : Point) (z m : Option ℕ) → shapeBytes (point xy z m) �
 unfolding shapeBytes pointBytes flatten double
 point-laid xy z m = rw (value-run z, value-run m, run-append 8 (writeIf value z) (writeIf value m), append-assoc)
 
+-- of these the points, then z and m
+pub doubles-laid : (s : Parts)
+    → run 8 (partsDoubles s)
+    ≡ run 8 (coordinates (flatten (s .parts)))
+    ++ (run 8 (writeIf (measured (length (flatten (s .parts)))) (s .z)) ++ run 8 (writeIf (measured (length (flatten (s .parts)))) (s .m)))
+unfolding partsDoubles
+doubles-laid s =
+    let n = length (flatten (s .parts)) in
+    rw (← run-append 8 (writeIf (measured n) (s .z)) (writeIf (measured n) (s .m)))
+    (run-append 8 (coordinates (flatten (s .parts))) (writeIf (measured n) (s .z) ++ writeIf (measured n) (s .m)))
+
 pub parts-laid : (s : Parts)
     → shapeBytes (parted s)
     ≡ run 8 (boxDoubles (s .box)) ++ (leBytes 4 (length (s .parts)) ++ (leBytes 4 (length (flatten (s .parts))) ++ (run 4 (startsFrom 0 (s .parts)) ++ run 8 (partsDoubles s))))
-unfolding shapeBytes partsBytes boxBytes doubles double little partsDoubles
+unfolding shapeBytes partsBytes boxBytes doubles double little
 parts-laid s =
     let n = length (flatten (s .parts)) in
-    rw (
-      points-doubles (flatten (s .parts)),
-      measure-run n (s .z),
-      measure-run n (s .m),
-      run-append 8 (coordinates (flatten (s .parts))) (writeIf (measured n) (s .z) ++ writeIf (measured n) (s .m)),
-      run-append 8 (writeIf (measured n) (s .z)) (writeIf (measured n) (s .m)),
-    )
+    rw (points-doubles (flatten (s .parts)), measure-run n (s .z), measure-run n (s .m), doubles-laid s)
 
 -- ---- lengths
 
@@ -137,3 +145,13 @@ length-content k s o = rw (length-append, length-little) (length-shape k s o)
 pub length-record : (k : Kind) (n : ℕ) (s : Shape) → OfKind k s → length (recordBytes k n s) ≡ 8 + 2 * shapeWords s
 unfolding recordBytes
 length-record k n s o = rw (length-append, length-two, length-content k s o)
+
+-- ---- the kind's field, and what is behind it
+
+pub content-code : (k : Kind) (s : Shape) → k .code < 2 ^ 31 → leI32 0 (content k s) ≡ pos (k .code)
+unfolding content little
+content-code k s h = i32-back (k .code) 0 (content k s) h (in-front (little (k .code)) (shapeBytes s))
+
+pub content-behind : (k : Kind) (s : Shape) → drop 4 (content k s) ≡ shapeBytes s
+unfolding content
+content-behind k s = drop-at (little (k .code)) (shapeBytes s) 4 (length-little (k .code))

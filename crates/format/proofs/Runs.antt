@@ -1,11 +1,17 @@
--- Runs of numbers of one width in the bytes: read and written.
-use mathlib.Core.Path.{_≡_, refl, ap, _∙_}
+-- Runs of numbers of one width in the bytes: read and written, and read by their values.
+use mathlib.Core.Path.{_≡_, refl, sym, ap, _∙_}
 use mathlib.Core.List.{List, [], _∷_, _++_, map, flatten, append-assoc}
-use Prim.Native.Nat.{ℕ, zero, suc, _+_, _*_, _≤_, _<_}
+use Prim.Native.Nat.{ℕ, zero, suc, _+_, _*_, _^_, _≤_, _<_}
 use native.Mathlib.Nat.{mul-suc, add-zero}
 use native.Mathlib.Omega.{arith}
+use lib.Ieee.{binary64, ofBits}
+use lib.IntN.{pos}
 use lib.ListN.{length, drop, getD, length-append}
+use mir.Syntax.{w32}
+use mir.Val.{toZ}
+use mir.ValLaws.{toZ-ofZ}
 use Rattle.format.specs.Bytes.{le, leBytes, field, Fit}
+use Rattle.format.specs.Numbers.{leI32, leF64, doublesAt}
 use Rattle.format.proofs.ByteLaws.{AllBytes, length-leBytes}
 use Rattle.format.proofs.Places.{Stands, join, front, back, le-back, le-stands}
 
@@ -71,3 +77,27 @@ number-at w zero at s i h = absurd (omega arith)
 number-at w (suc n) at s zero h = ap (λ (a : ℕ). le (field w a s)) (omega arith)
 number-at w (suc n) at s (suc i) h =
     number-at w n (at + w) s i (omega arith) ∙ ap (λ (a : ℕ). le (field w a s)) (omega (arith, mul-suc w i))
+
+-- ---- by their values: an i32 that is not negative, and doubles
+
+pub i32-back : (n at : ℕ) (s : List ℕ) → n < 2 ^ 31 → Stands at (leBytes 4 n) s → leI32 at s ≡ pos n
+unfolding leI32
+i32-back n at s h p = ap (toZ w32) (le-back 4 n at s (omega arith) p) ∙ toZ-ofZ w32 (pos n) (record { sfits = h })
+
+pub double-back : (d at : ℕ) (s : List ℕ) → d < 2 ^ 64 → Stands at (leBytes 8 d) s → leF64 at s ≡ ofBits binary64 d
+unfolding leF64
+double-back d at s h p = ap (ofBits binary64) (le-back 8 d at s h p)
+
+doubles-are : (n at : ℕ) (s : List ℕ) → doublesAt n at s ≡ map (ofBits binary64) (numbers 8 n at s)
+unfolding doublesAt numbers leF64
+doubles-are zero at s = refl
+doubles-are (suc n) at s = ap (_∷_ (leF64 at s)) (doubles-are n (at + 8) s)
+
+-- all of those that stand there, and double i of them
+module _ (at : ℕ) (ds s : List ℕ) (f : Fit 8 ds) (p : Stands at (run 8 ds) s) where
+  pub doubles-back : (n : ℕ) → length ds ≡ n → doublesAt n at s ≡ map (ofBits binary64) ds
+  doubles-back n e = rw (← e) (doubles-are (length ds) at s ∙ ap (map (ofBits binary64)) (numbers-back 8 at ds s f p))
+
+  pub double-at : (i : ℕ) → i < length ds → leF64 (at + 8 * i) s ≡ ofBits binary64 (getD ds i 0)
+  unfolding leF64
+  double-at i h = ap (ofBits binary64) (sym (number-at 8 (length ds) at s i h) ∙ ap (λ (l : List ℕ). getD l i 0) (numbers-back 8 at ds s f p))

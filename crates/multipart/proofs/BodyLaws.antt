@@ -9,7 +9,7 @@ use lib.Ieee.{Float}
 use lib.IntN.{ℤ}
 use lib.ListN.{length}
 use borrow.Author.Tests.{leb-true}
-use Rattle.format.specs.Numbers.{doublesAt}
+use Rattle.format.specs.Numbers.{leI32, leF64, doublesAt}
 use Rattle.format.specs.Order.{first}
 use Rattle.format.specs.Said.{Said, gives, room}
 use Rattle.format.proofs.OrderLaws.{first-append, isRefusal, both-true}
@@ -17,10 +17,10 @@ use Rattle.multipart.specs.declared.Body.{Body}
 use Rattle.multipart.specs.declared.BodyAnswer.{BodyAnswer}
 use Rattle.multipart.specs.declared.BodyAnswer.the-variants as Is
 use Rattle.multipart.specs.Answers.{saidBody, ReadsBody}
-use Rattle.multipart.specs.Body.{partsIn, countsIn, pointsIn, pairsAt, zAt, mAt, raised, xyIn, zIn, mIn, bodyIn, countTests, restTests, hasRoom, roomTests, bodyOf}
+use Rattle.multipart.specs.Body.{partsIn, countsIn, pointsIn, pairsAt, zAt, mAt, raised, rangeAt, noRange, xyIn, zIn, mIn, bodyIn, countTests, restTests, hasRoom, roomTests, bodyOf}
 use Rattle.multipart.specs.Parts.{countOf}
 use Rattle.multipart.specs.Walks.{Passes, Refuses, differencesOf, endAfter, Ready}
-use Rattle.multipart.proofs.RestLaws.{z-place}
+use Rattle.multipart.proofs.RestLaws.{z-place, m-place}
 
 -- ---- where it stands
 
@@ -30,10 +30,6 @@ range-le true n = omega arith
 range-le false n = omega arith
 
 module _ (z m : Bool) (s : List ℕ) (points end : ℕ) (points-are : points ≡ pointsIn s) (end-is : end ≡ zAt s) (ends : endAfter m (pointsIn s) (mAt z s) ≤ length s) where
-  pub m-place : endAfter z points end ≡ mAt z s
-  unfolding mAt
-  m-place = rw (points-are, end-is)
-
   pub box-inside : 40 ≤ length s
   unfolding mAt zAt pairsAt
   box-inside = omega (arith, ends)
@@ -43,7 +39,47 @@ module _ (z m : Bool) (s : List ℕ) (points end : ℕ) (points-are : points ≡
   z-range-inside = rw end-is (omega (arith, ends, range-le z (pointsIn s)))
 
   pub m-range-inside : endAfter z points end + cond m 16 0 ≤ length s
-  m-range-inside = rw m-place (omega (arith, ends, range-le m (pointsIn s)))
+  m-range-inside = rw (m-place z s points end points-are end-is) (omega (arith, ends, range-le m (pointsIn s)))
+
+-- each table, and the body, by the number of its parts and of its points
+module _ (z m : Bool) (s : List ℕ) (p points : ℕ) (parts-are : p ≡ partsIn s) (points-are : points ≡ pointsIn s) where
+  abbrev zPlace : ℕ
+  zPlace = 40 + 4 * p + 16 * points
+
+  abbrev mPlace : ℕ
+  mPlace = endAfter z points zPlace
+
+  z-here : zPlace ≡ zAt s
+  z-here = z-place s p points parts-are points-are
+
+  m-here : mPlace ≡ mAt z s
+  m-here = m-place z s points zPlace points-are z-here
+
+  pub xy-here : doublesAt (2 * points) (40 + 4 * p) s ≡ xyIn s
+  unfolding xyIn pairsAt
+  xy-here = rw (parts-are, points-are)
+
+  pub z-values : cond z (doublesAt points (zPlace + 16) s) [] ≡ zIn z s
+  unfolding zIn
+  z-values = rw (z-here, points-are)
+
+  pub m-values : cond m (map raised (doublesAt points (mPlace + 16) s)) [] ≡ mIn z m s
+  unfolding mIn
+  m-values = rw (m-here, points-are)
+
+  pub body-here : record {
+    bbox = record { xmin = leF64 0 s; ymin = leF64 8 s; xmax = leF64 16 s; ymax = leF64 24 s };
+    «z_range» = cond z (rangeAt zPlace s) noRange;
+    «m_range» = cond m (rangeAt mPlace s) noRange;
+    parts = p;
+    points = points;
+  } ≡ bodyIn z m s
+  unfolding bodyIn
+  body-here = rw (m-here, z-here, parts-are, points-are)
+
+pub counts-here : (s : List ℕ) (p : ℕ) (n : ℤ) → p ≡ partsIn s → n ≡ leI32 36 s → map countOf (differencesOf p n s) ≡ countsIn s
+unfolding countsIn
+counts-here s p n e f = rw (e, f)
 
 -- ---- that it fits
 
@@ -80,20 +116,16 @@ module _ (z m : Bool) (s : List ℕ) (p : ℕ) (n : ℤ) (points counts xy zs ms
 
   -- what the code stores is what the definition has
   pub counts-stored : map countOf (differencesOf p n s) ≡ countsIn s
-  unfolding countsIn
-  counts-stored = rw (r .parts-are, r .number-is)
+  counts-stored = counts-here s p n (r .parts-are) (r .number-is)
 
   pub xy-stored : doublesAt (2 * points) (40 + 4 * p) s ≡ xyIn s
-  unfolding xyIn pairsAt
-  xy-stored = rw (r .parts-are, r .points-are)
+  xy-stored = xy-here z m s p points (r .parts-are) (r .points-are)
 
   pub z-stored : cond z (doublesAt points (40 + 4 * p + 16 * points + 16) s) [] ≡ zIn z s
-  unfolding zIn
-  z-stored = rw (pairs-end, r .points-are)
+  z-stored = z-values z m s p points (r .parts-are) (r .points-are)
 
   pub m-stored : cond m (map raised (doublesAt points (endAfter z points (40 + 4 * p + 16 * points) + 16) s)) [] ≡ mIn z m s
-  unfolding mIn mAt
-  m-stored = rw (pairs-end, r .points-are)
+  m-stored = m-values z m s p points (r .parts-are) (r .points-are)
 
 -- ---- what is said of it
 

@@ -6,9 +6,9 @@ use Prim.Native.Nat.{ℕ, suc, _+_, _*_, _-_, _/_, _≤_, _<_}
 use native.Mathlib.Nat.{zero-add, sub-zero}
 use native.Mathlib.Omega.{arith}
 use lib.Dec.{lit<}
-use lib.IntN.{ℤ, natAbs}
+use lib.IntN.{ℤ, pos, natAbs}
 use lib.ListN.{length, drop}
-use borrow.Author.Tests.{leb-true}
+use borrow.Author.Tests.{le-leb, leb-true}
 use Rattle.format.specs.Numbers.{leI32}
 use Rattle.format.specs.Order.{first, fieldsFrom}
 use Rattle.format.specs.Said.{Said, gives, refuses, short}
@@ -74,3 +74,16 @@ module _ (s : List ℕ) where
         parts-are = ap (λ (t : Two). t .parts) (sym (given (found s) (two p n) (countTests s) tt (sym e)));
         passes = λ a. before-body a ∙ ap (carry (λ t. a)) (sym e);
       }
+
+-- ---- p parts and n points
+
+module _ (s : List ℕ) (p n : ℕ) (h : 40 ≤ length s) (parts-are : leI32 32 s ≡ pos p) (number-is : leI32 36 s ≡ pos n) where
+  pub counts-pass : {A : Type 0} (a : Said A) → first (countTests s) a ≡ a
+  counts-pass a =
+      first-append (fieldsFrom 8 4 0 s short) (drop 4 (countTests s)) a
+      ∙ (fields-whole 8 (lit< tt) 4 0 s short (first (drop 4 (countTests s)) a) (omega arith)
+      ∙ rw (le-leb 36 (length s) (omega arith), le-leb 40 (length s) h, parts-are, number-is))
+
+  pub counts-said : countsOf s ≡ gives (two p n)
+  unfolding countsOf
+  counts-said = counts-pass (counts s) ∙ rw (parts-are, number-is)

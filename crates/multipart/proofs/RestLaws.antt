@@ -15,7 +15,7 @@ use Rattle.multipart.specs.declared.Body.{Body}
 use Rattle.multipart.specs.declared.judge.Walk.{Walk}
 use Rattle.multipart.specs.declared.judge.Walk.the-variants.{On, Short, Size}
 use Rattle.multipart.specs.Body.{partsIn, differencesIn, countsIn, pointsIn, pairsAt, zAt, mAt, partTests, measureTests, restTests}
-use Rattle.multipart.specs.Walks.{Passes, Refuses, Finds, PartsWalk, MeasureWalk}
+use Rattle.multipart.specs.Walks.{Passes, Refuses, Finds, PartsWalk, endAfter, MeasureWalk}
 
 -- ---- one list of tests after another
 
@@ -91,6 +91,10 @@ parts-found s p n r r′ e f g h = found s r′ (rw (e, f, g) at h)
 pub z-place : (s : List ℕ) (p points : ℕ) → p ≡ partsIn s → points ≡ pointsIn s → 40 + 4 * p + 16 * points ≡ zAt s
 unfolding zAt pairsAt
 z-place s p points e f = rw (e, f)
+
+pub m-place : (z : Bool) (s : List ℕ) (points end : ℕ) → points ≡ pointsIn s → end ≡ zAt s → endAfter z points end ≡ mAt z s
+unfolding mAt
+m-place z s points end e f = rw (e, f)
 
 -- the walk over z, and over m
 pub measure-found : (flag : Bool) (s : List ℕ) (r r′ : Walk) (n n′ at at′ : ℕ) → n ≡ n′ → at ≡ at′ → r ≡ r′ → MeasureWalk flag n at s r → MeasureWalk flag n′ at′ s r′

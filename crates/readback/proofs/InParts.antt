@@ -1,14 +1,11 @@
 -- What the definitions of a body find in the bytes of a shape with parts: its own numbers of parts and points, its tables, each at its place.
-use mathlib.Core.Path.{_≡_, refl, ap, _∙_}
+use mathlib.Core.Path.{_≡_, refl, sym, ap, _∙_}
 use mathlib.Core.Bool.{Bool, true, false, cond}
 use mathlib.Core.List.{List, _++_, map, flatten}
 use Prim.Native.Nat.{ℕ, _+_, _*_, _^_, _<_}
-use native.Mathlib.Nat.{zero-add}
 use native.Mathlib.Omega.{arith}
-use lib.IntN.{pos}
+use lib.IntN.{pos, natAbs}
 use lib.ListN.{length}
-use mir.Syntax.{w32}
-use mir.Val.{toZ}
 use Rattle.format.specs.declared.kinds.Kind.{Kind}
 use Rattle.format.specs.Bytes.{leBytes}
 use Rattle.format.specs.Encoding.{startsFrom, shapeBytes, shapeWords}
@@ -16,19 +13,23 @@ use Rattle.format.specs.Numbers.{leI32}
 use Rattle.format.specs.Shapes.{Parts, parted, there, PartsOf}
 use Rattle.format.specs.WellFormed.{coordinates}
 use Rattle.format.proofs.ByteLaws.{length-leBytes}
-use Rattle.format.proofs.Cuts.{length-startsFrom, fit-starts}
-use Rattle.format.proofs.Doubles.{measured, count, writeIf}
-use Rattle.format.proofs.Laid.{parts-words, boxDoubles, partsDoubles, parts-laid, length-shape}
+use Rattle.format.proofs.Cuts.{length-startsFrom}
+use Rattle.format.proofs.Doubles.{measured, count}
+use Rattle.format.proofs.Equations.{words-parted}
+use Rattle.format.proofs.Laid.{parts-words, boxDoubles, partsDoubles, parts-laid, doubles-laid, length-shape}
 use Rattle.format.proofs.Pairs.{length-coordinates}
 use Rattle.format.proofs.Places.{Stands, all-behind, front, back}
-use Rattle.format.proofs.Runs.{run, run-append, length-run, numbers-back}
-use Rattle.multipart.specs.Body.{differencesIn, countsIn, pointsIn, pairsAt, zAt, mAt, raised, xyIn, zIn, mIn}
-use Rattle.multipart.specs.Parts.{countOf, startsAt}
+use Rattle.format.proofs.Runs.{run, length-run, i32-back, doubles-back}
+use Rattle.multipart.specs.declared.judge.Walk.the-variants.{On}
+use Rattle.multipart.specs.Body.{partsIn, countsIn, pointsIn, zAt, mAt, raised, xyIn, zIn, mIn}
+use Rattle.multipart.proofs.BodyLaws.{counts-here, xy-here, z-values, m-values}
+use Rattle.multipart.proofs.RestLaws.{PartsFound, parts-found}
+use Rattle.multipart.proofs.RestLaws
+use Rattle.multipart.proofs.StartLaws.{counts-laid}
+use Rattle.multipart.proofs.StartLaws
 use Rattle.readback.specs.Held.{PartsHeld}
 use Rattle.readback.specs.ReadBack.{Small, countsOfParts, xyOfParts, valuesOf}
-use Rattle.readback.proofs.Counts.{lengths, starts-held, differences-back, counts-back, sum-back}
 use Rattle.readback.proofs.Measures.{laid, length-laid, values-back, map-cond}
-use Rattle.readback.proofs.Numbers.{i32-back, starts-are, doubles-back}
 
 -- its bytes behind the kind's field, its parts and its points
 abbrev pub bytes : Parts → List ℕ
@@ -58,8 +59,7 @@ module _ (k : Kind) (s : Parts) (o : PartsOf k s) (v : PartsHeld s) (small : Sma
   -- ---- how long they are
 
   words : shapeWords (parted s) ≡ 22 + 2 * parts s + 4 * count (measured (points s)) (points s) (there (s .z)) (there (s .m))
-  unfolding shapeWords
-  words = parts-words (there (s .z)) (there (s .m)) (parts s) (points s)
+  words = words-parted s ∙ parts-words (there (s .z)) (there (s .m)) (parts s) (points s)
 
   pub size : length (bytes s) ≡ mPlace s + cond (there (s .m)) (16 + 8 * points s) 0
   size = omega (arith, length-shape k (parted s) o, words, measure-size (there (s .z)) (points s), measure-size (there (s .m)) (points s))
@@ -99,22 +99,20 @@ module _ (k : Kind) (s : Parts) (o : PartsOf k s) (v : PartsHeld s) (small : Sma
   length-starts : length (run 4 starts) ≡ 4 * parts s
   length-starts = rw (length-run 4 starts, length-startsFrom 0 (s .parts))
 
+  at-starts : Stands 40 (run 4 starts) (bytes s)
+  at-starts = front 40 (4 * parts s) (run 4 starts) (run 8 (partsDoubles s)) (bytes s) length-starts at40
+
   abbrev measures : List ℕ
-  measures = writeIf (measured (points s)) (s .z) ++ writeIf (measured (points s)) (s .m)
+  measures = laid (points s) (s .z) ++ laid (points s) (s .m)
 
   length-pairs : length (run 8 (coordinates (flatten (s .parts)))) ≡ 16 * points s
   length-pairs = rw (length-run 8 (coordinates (flatten (s .parts))), length-coordinates (flatten (s .parts))) (omega arith)
 
-  at-doubles : Stands (pairsPlace s) (run 8 (coordinates (flatten (s .parts))) ++ run 8 measures) (bytes s)
-  unfolding partsDoubles
-  at-doubles =
-      rw (← run-append 8 (coordinates (flatten (s .parts))) measures)
-      (back 40 (4 * parts s) (run 4 starts) (run 8 (partsDoubles s)) (bytes s) length-starts at40)
+  at-doubles : Stands (pairsPlace s) (run 8 (coordinates (flatten (s .parts))) ++ measures) (bytes s)
+  at-doubles = rw (doubles-laid s) at (back 40 (4 * parts s) (run 4 starts) (run 8 (partsDoubles s)) (bytes s) length-starts at40)
 
-  at-measures : Stands (zPlace s) (laid (points s) (s .z) ++ laid (points s) (s .m)) (bytes s)
-  at-measures =
-      rw (← run-append 8 (writeIf (measured (points s)) (s .z)) (writeIf (measured (points s)) (s .m)))
-      (back (pairsPlace s) (16 * points s) (run 8 (coordinates (flatten (s .parts)))) (run 8 measures) (bytes s) length-pairs at-doubles)
+  at-measures : Stands (zPlace s) measures (bytes s)
+  at-measures = back (pairsPlace s) (16 * points s) (run 8 (coordinates (flatten (s .parts)))) measures (bytes s) length-pairs at-doubles
 
   length-z : length (laid (points s) (s .z)) ≡ cond (there (s .z)) (16 + 8 * points s) 0
   length-z = length-laid (points s) (s .z) (o .covers-z)
@@ -133,53 +131,41 @@ module _ (k : Kind) (s : Parts) (o : PartsOf k s) (v : PartsHeld s) (small : Sma
   pub number-is : leI32 36 (bytes s) ≡ pos (points s)
   number-is = i32-back (points s) 36 (bytes s) points-held (front 36 4 (leBytes 4 (points s)) behind36 (bytes s) (length-leBytes 4 (points s)) at36)
 
-  starts-back : startsAt (parts s) 40 (bytes s) ≡ map pos starts
-  starts-back =
-      let fit = fit-starts 0 (s .parts) (omega (arith, points-held)) in
-      let stand = front 40 (4 * parts s) (run 4 starts) (run 8 (partsDoubles s)) (bytes s) length-starts at40 in
-      rw (← length-startsFrom 0 (s .parts))
-      (starts-are (length starts) 40 (bytes s)
-      ∙ (ap (map (toZ w32)) (numbers-back 4 40 starts (bytes s) fit stand) ∙ starts-held 0 (s .parts) (omega (arith, points-held))))
+  pub parts-are : parts s ≡ partsIn (bytes s)
+  parts-are = ap natAbs (sym parts-is)
 
-  pub differences-are : differencesIn (bytes s) ≡ lengths (s .parts)
-  differences-are = rw (parts-is, number-is, starts-back) (rw zero-add at (differences-back 0 (s .parts)))
+  pub found : PartsFound (bytes s) (On (points s))
+  found =
+      parts-found (bytes s) (parts s) (pos (points s)) (On (points s)) (On (points s)) parts-are (sym number-is) refl
+      (StartLaws.parts-laid (s .parts) (bytes s) points-held at-starts (omega (arith, size)))
 
-  pub counts-are : countsIn (bytes s) ≡ countsOfParts s
-  unfolding countsIn
-  counts-are = ap (map countOf) differences-are ∙ counts-back (s .parts) points-held
-
-  pub points-are : pointsIn (bytes s) ≡ points s
-  unfolding pointsIn
-  points-are = rw counts-are (sum-back (s .parts))
+  pub points-are : points s ≡ pointsIn (bytes s)
+  points-are = found .1 .0
 
   -- ---- the places, and the tables
 
-  pub pairs-place : pairsAt (bytes s) ≡ pairsPlace s
-  unfolding pairsAt
-  pairs-place = rw parts-is
+  pub z-place : zPlace s ≡ zAt (bytes s)
+  z-place = RestLaws.z-place (bytes s) (parts s) (points s) parts-are points-are
 
-  pub z-place : zAt (bytes s) ≡ zPlace s
-  unfolding zAt
-  z-place = rw (pairs-place, points-are)
+  pub m-place : mPlace s ≡ mAt (there (s .z)) (bytes s)
+  m-place = RestLaws.m-place (there (s .z)) (bytes s) (points s) (zPlace s) points-are z-place
 
-  pub m-place : mAt (there (s .z)) (bytes s) ≡ mPlace s
-  unfolding mAt
-  m-place = rw (z-place, points-are)
+  pub counts-are : countsIn (bytes s) ≡ countsOfParts s
+  counts-are = sym (counts-here (bytes s) (parts s) (pos (points s)) parts-are (sym number-is)) ∙ counts-laid (s .parts) (bytes s) points-held at-starts
 
   pub xy-are : xyIn (bytes s) ≡ xyOfParts s
-  unfolding xyIn
   xy-are =
-      rw (points-are, pairs-place)
-      (doubles-back (pairsPlace s) (2 * points s) (coordinates (flatten (s .parts))) (bytes s) (length-coordinates (flatten (s .parts)))
-      (v .points)
-      (front (pairsPlace s) (16 * points s) (run 8 (coordinates (flatten (s .parts)))) (run 8 measures) (bytes s) length-pairs at-doubles))
+      sym (xy-here (there (s .z)) (there (s .m)) (bytes s) (parts s) (points s) parts-are points-are)
+      ∙ doubles-back (pairsPlace s) (coordinates (flatten (s .parts))) (bytes s) (v .points)
+      (front (pairsPlace s) (16 * points s) (run 8 (coordinates (flatten (s .parts)))) measures (bytes s) length-pairs at-doubles)
+      (2 * points s) (length-coordinates (flatten (s .parts)))
 
   pub z-are : zIn (there (s .z)) (bytes s) ≡ valuesOf (s .z)
-  unfolding zIn
-  z-are = rw (points-are, z-place) (values-back (points s) (zPlace s) (bytes s) (s .z) (o .covers-z) (v .z) at-z)
+  z-are =
+      sym (z-values (there (s .z)) (there (s .m)) (bytes s) (parts s) (points s) parts-are points-are)
+      ∙ values-back (points s) (zPlace s) (bytes s) (s .z) (o .covers-z) (v .z) at-z
 
   pub m-are : mIn (there (s .z)) (there (s .m)) (bytes s) ≡ map raised (valuesOf (s .m))
-  unfolding mIn
   m-are =
-      rw (points-are, m-place)
-      (map-cond raised (there (s .m)) _ ∙ ap (map raised) (values-back (points s) (mPlace s) (bytes s) (s .m) (o .covers-m) (v .m) at-m))
+      sym (m-values (there (s .z)) (there (s .m)) (bytes s) (parts s) (points s) parts-are points-are)
+      ∙ (map-cond raised (there (s .m)) _ ∙ ap (map raised) (values-back (points s) (mPlace s) (bytes s) (s .m) (o .covers-m) (v .m) at-m))

@@ -13,11 +13,10 @@ use Rattle.format.specs.Shapes.{Measure, there, Covers}
 use Rattle.format.proofs.ByteLaws.{length-leBytes}
 use Rattle.format.proofs.Doubles.{measured, writeIf}
 use Rattle.format.proofs.Places.{Stands, front, back}
-use Rattle.format.proofs.Runs.{run, run-append, length-run}
+use Rattle.format.proofs.Runs.{run, run-append, length-run, double-back, doubles-back}
 use Rattle.multipart.specs.Body.{rangeAt, noRange}
 use Rattle.readback.specs.Held.{measureHeld}
 use Rattle.readback.specs.ReadBack.{rangeOf, valuesOf}
-use Rattle.readback.proofs.Numbers.{double-back, doubles-back}
 
 -- its bytes
 abbrev pub laid : ℕ → Option Measure → List ℕ
@@ -42,9 +41,10 @@ module _ (n at : ℕ) (s : List ℕ) where
   pub values-back : (o : Option Measure) → Covers n o → measureHeld o → Stands at (laid n o) s → cond (there o) (doublesAt n (at + 16) s) [] ≡ valuesOf o
   values-back none c f p = refl
   values-back (some r) c f p =
-      doubles-back (at + 16) n (r .values) s c (f .1 .1)
+      doubles-back (at + 16) (r .values) s (f .1 .1)
       (back at 16 (run 8 (r .low ∷ r .high ∷ [])) (run 8 (r .values)) s (length-run 8 (r .low ∷ r .high ∷ []))
       (rw (run-append 8 (r .low ∷ r .high ∷ []) (r .values)) at p))
+      n c
 
 pub map-cond : (f : Float → Float) (t : Bool) (l : List Float) → cond t (map f l) [] ≡ map f (cond t l [])
 map-cond f true l = refl

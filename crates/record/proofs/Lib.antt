@@ -3,6 +3,6 @@ pub mod Determined
 mod FrontLaws
 pub mod Numbered
 mod PartsLaws
-mod PointLaws
-mod ShapeLaws
+pub mod PointLaws
+pub mod ShapeLaws
 mod SizeLaws

@@ -42,6 +42,17 @@ module _ (k : Kind) (n : ℕ) (h : 4 + 8 * doublesOf k ≤ n) where
 
 -- ---- what is said
 
+module _ (k : Kind) (size : Bytes) (s : List ℕ) (q : isWords size (contentWords onePoint (k .z) (k .m) 0 1) ≡ true) where
+  abbrev shaped : Said Shaped
+  shaped = gives (pointShape (codeIn s) (pointIn k s))
+
+  fields-left : pointOf k size s ≡ first (fieldsFrom 8 (doublesOf k) 4 s short) shaped
+  unfolding pointOf
+  fields-left = rw q
+
+  pub point-said : 4 + 8 * doublesOf k ≤ length s → pointOf k size s ≡ shaped
+  point-said h = fields-left ∙ fields-whole 8 (lit< tt) (doublesOf k) 4 s short shaped h
+
 module _ (k : Kind) (l : Lengths) (size : Bytes) (s : List ℕ) (e : l ≡ lengthsFor k onePoint) where
   size-is : isWords size (formulaWords (l .with) 0 1) ≡ isWords size (contentWords onePoint (k .z) (k .m) 0 1)
   size-is = ap (λ (x : Lengths). isWords size (formulaWords (x .with) 0 1)) e ∙ ap (isWords size) (sym (words-are onePoint (k .z) (k .m) 0 1))
@@ -51,20 +62,12 @@ module _ (k : Kind) (l : Lengths) (size : Bytes) (s : List ℕ) (e : l ≡ lengt
   other-size q = record { says = rw (sym (q ∙ size-is)); none = refl }
 
   module _ (q : true ≡ isWords size (formulaWords (l .with) 0 1)) where
-    shaped : Said Shaped
-    shaped = gives (pointShape (codeIn s) (pointIn k s))
-
-    fields-left : pointOf k size s ≡ first (fieldsFrom 8 (doublesOf k) 4 s short) shaped
-    unfolding pointOf shaped
-    fields-left = rw (sym (q ∙ size-is))
+    fits : isWords size (contentWords onePoint (k .z) (k .m) 0 1) ≡ true
+    fits = sym (q ∙ size-is)
 
     pub point-cut : 4 ≤ length s → length s < 4 + 8 * doublesOf k → Answers (pointOf k size s) (Is.Short (4 + (length s - 4) / 8 * 8))
-    point-cut h c = record { says = sym (fields-left ∙ fields-cut 8 (lit< tt) (doublesOf k) 4 s short shaped h c); none = refl }
+    point-cut h c = record { says = sym (fields-left k size s fits ∙ fields-cut 8 (lit< tt) (doublesOf k) 4 s short (shaped k size s fits) h c); none = refl }
 
     pub point-whole : 4 + 8 * doublesOf k ≤ length s → (code : ℤ) (p : Point) → code ≡ codeIn s → p ≡ pointIn k s → Answers (pointOf k size s) (Is.Point code p)
-    unfolding shaped
     point-whole h code p f g =
-        record {
-          says = ap₂ (λ (z : ℤ) (x : Point). gives (pointShape z x)) f g ∙ sym (fields-left ∙ fields-whole 8 (lit< tt) (doublesOf k) 4 s short shaped h);
-          none = refl;
-        }
+        record { says = ap₂ (λ (z : ℤ) (x : Point). gives (pointShape z x)) f g ∙ sym (point-said k size s fits h); none = refl }

@@ -12,15 +12,17 @@ use borrow.Author.Tests.{eq-eqb, ne-eqb}
 use Rattle.format.specs.declared.kinds.Kind.{Kind}
 use Rattle.format.specs.declared.lengths.Lengths.{Lengths}
 use Rattle.format.specs.declared.units.Bytes.{Bytes}
-use Rattle.format.specs.Kinds.{kindOr}
+use Rattle.format.specs.Kinds.{kindAt, kindOr}
 use Rattle.format.specs.Lengths.{Form, nothing, onePoint, parts, formOf, lengthsFor, lengthsOf, formIn}
-use Rattle.format.specs.Said.{Said}
+use Rattle.format.specs.Said.{Said, gives}
 use Rattle.format.proofs.LengthLaws.{lengths-form, form-by}
-use Rattle.multipart.specs.Body.{zIn, mIn}
+use Rattle.multipart.specs.Body.{zIn, mIn, bodyOf}
+use Rattle.multipart.specs.declared.Body.{Body}
+use Rattle.multipart.specs.Answers.{Two, countsOf}
 use Rattle.record.specs.declared.Wanted.{Wanted}
 use Rattle.record.specs.declared.RecordAnswer.{RecordAnswer}
 use Rattle.record.specs.declared.RecordAnswer.the-variants as Is
-use Rattle.record.specs.Reading.{Shaped, codeIn, frontTests, pointOf, partsOf, byForm, recordOf, stored, ReadsRecord}
+use Rattle.record.specs.Reading.{Shaped, partsShape, codeIn, frontTests, pointOf, hasM, sizeRight, partsOf, byForm, recordOf, stored, ReadsRecord}
 use Rattle.record.specs.Steps.{Passes, Refuses, Takes, Answers, Reads, restFrom, partsFrom}
 use Rattle.record.proofs.PartsLaws.{stored-none}
 
@@ -87,7 +89,17 @@ module _ (k : Kind) (size : Bytes) (s counts : List ℕ) (xy zs ms : List Float)
         m-are = i .m-are;
       }
 
+-- a body whose counts, size and rest are well
+pub parts-said : (k : Kind) (size : Bytes) (s : List ℕ) (counts xy zs ms : ℕ) (t : Two) (body : Body) → countsOf (drop 4 s) ≡ gives t → sizeRight k size t ≡ true → bodyOf (k .z) (hasM k size t) (drop 4 s) counts xy zs ms ≡ gives body → partsOf k size s counts xy zs ms ≡ gives (partsShape (codeIn s) (hasM k size t) body)
+unfolding partsOf
+parts-said k size s counts xy zs ms t body e q f = rw (e, q, f)
+
 -- ---- the record
+
+pub by-kind : (wanted : Wanted) (size : Bytes) (s : List ℕ) (k : Kind) (counts xy zs ms : ℕ) → Passes (frontTests wanted size s) → kindAt (codeIn s) ≡ some k → byForm (formOf k) k size s counts xy zs ms ≡ recordOf wanted size s counts xy zs ms
+unfolding recordOf
+by-kind wanted size s k counts xy zs ms p e =
+    ap (λ (o : Option Kind). byForm (formIn o) (kindOr o) size s counts xy zs ms) (sym e) ∙ sym (p _)
 
 module _ (wanted : Wanted) (size : Bytes) (s counts : List ℕ) (xy zs ms : List Float) where
   pub refused : (r : RecordAnswer) → Refuses (frontTests wanted size s) r → ReadsRecord wanted size s counts xy zs ms r counts xy zs ms
@@ -102,16 +114,10 @@ module _ (wanted : Wanted) (size : Bytes) (s counts : List ℕ) (xy zs ms : List
       }
 
   module _ (k : Kind) (l : Lengths) (p : Passes (frontTests wanted size s)) (t : Takes size s k l) where
-    by-kind : byForm (formOf k) k size s (length counts) (length xy) (length zs) (length ms) ≡ recordOf wanted size s (length counts) (length xy) (length zs) (length ms)
-    unfolding recordOf
-    by-kind =
-        ap (λ (o : Option Kind). byForm (formIn o) (kindOr o) size s (length counts) (length xy) (length zs) (length ms)) (sym (t .kind-is))
-        ∙ sym (p _)
-
     pub shaped : (r : RecordAnswer) (counts′ : List ℕ) (xy′ zs′ ms′ : List Float) → Reads (byForm (formOf k) k size s (length counts) (length xy) (length zs) (length ms)) (k .z) (drop 4 s) counts xy zs ms r counts′ xy′ zs′ ms′ → ReadsRecord wanted size s counts xy zs ms r counts′ xy′ zs′ ms′
     shaped r counts′ xy′ zs′ ms′ h =
         record {
-          says = h .says ∙ by-kind;
+          says = h .says ∙ by-kind wanted size s k _ _ _ _ p (t .kind-is);
           counts-are = h .counts-are;
           xy-are = h .xy-are;
           z-are = h .z-are ∙ ap (λ (o : Option Kind). stored r zs (λ m. zIn (kindOr o .z) (drop 4 s))) (sym (t .kind-is));

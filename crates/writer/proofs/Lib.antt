@@ -6,9 +6,8 @@ pub mod Determined
 mod JudgeLaws
 pub mod KindLaws
 mod LengthLaws
-pub mod Numbered
-
 pub mod NextLaws
+pub mod Numbered
 mod PassLaws
 pub mod ShapeLaws
 pub mod StateLaws

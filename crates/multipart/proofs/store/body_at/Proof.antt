@@ -7,7 +7,8 @@ use lib.ListN.{length}
 use Rattle.multipart.specs.declared.Range.{Range}
 use Rattle.multipart.specs.Body.{mAt, rangeAt, noRange, bodyIn}
 use Rattle.multipart.specs.Walks.{endAfter}
-use Rattle.multipart.proofs.BodyLaws.{m-place, box-inside, z-range-inside, m-range-inside}
+use Rattle.multipart.proofs.BodyLaws.{box-inside, z-range-inside, m-range-inside}
+use Rattle.multipart.proofs.RestLaws.{m-place}
 use Rattle.multipart.proofs.store.body_at.Statement.{statement}
 use Rattle.multipart.proofs.store.body_at.Tie as tie
 
@@ -18,7 +19,7 @@ z-inside : (c : tie.Start) → c .args .end + cond (c .args .z) 16 0 ≤ length 
 z-inside c = z-range-inside (c .args .z) (c .args .m) (c .args .s .now) (c .args .points) (c .args .end) (c .pre .1) (c .pre .2) (c .pre .3)
 
 m-at : (c : tie.Start) → endAfter (c .args .z) (c .args .points) (c .args .end) ≡ mAt (c .args .z) (c .args .s .now)
-m-at c = m-place (c .args .z) (c .args .m) (c .args .s .now) (c .args .points) (c .args .end) (c .pre .1) (c .pre .2) (c .pre .3)
+m-at c = m-place (c .args .z) (c .args .s .now) (c .args .points) (c .args .end) (c .pre .1) (c .pre .2)
 
 m-inside : (c : tie.Start) → endAfter (c .args .z) (c .args .points) (c .args .end) + cond (c .args .m) 16 0 ≤ length (c .args .s .now)
 m-inside c = m-range-inside (c .args .z) (c .args .m) (c .args .s .now) (c .args .points) (c .args .end) (c .pre .1) (c .pre .2) (c .pre .3)
