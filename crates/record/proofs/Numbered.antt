@@ -24,7 +24,7 @@ front-numbered : (wanted : Wanted) (size : Bytes) (s : List ℕ) → AllNumbered
 front-numbered Wants.Any size s = omega arith
 front-numbered (Wants.Kind code) size s = omega arith
 
--- another place keeps the number
+-- a refusal whose offset is moved keeps its number
 moved-numbered : {A : Type 0} (said : Said A) → Numbered said → Numbered (moved said)
 moved-numbered (gives a) p = tt
 moved-numbered (refuses n values) p = cond-numbered (eqb n 1 || eqb n 3) _ _ p p
