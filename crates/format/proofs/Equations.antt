@@ -1,6 +1,6 @@
 -- What the definitions of specs/ say, case by case: the crates above cite these equations and do not unfold a definition.
 use mathlib.Core.Path.{_≡_, refl}
-use mathlib.Core.Bool.{Bool, false, cond, _||_}
+use mathlib.Core.Bool.{Bool, cond, _||_}
 use mathlib.Core.List.{List, [], _∷_, _++_, map, flatten}
 use mathlib.Core.Option.{Option, Option·map}
 use Prim.Native.Nat.{ℕ, suc, _+_, _*_, _/_, _%_}
@@ -12,27 +12,19 @@ use mir.Syntax.{w32}
 use mir.Val.{toZ, ofZ}
 use Rattle.format.specs.declared.kinds.Kind.{Kind}
 use Rattle.format.specs.Bytes.{le, be, leBytes, beBytes, field}
-use Rattle.format.specs.Encoding.{Box, Entry, doubles, pointBytes, boxBytes, startsFrom, valueBytes, measureBytes, partsBytes, shapeBytes, content, shapeWords, twoBig, recordBytes, recordsFrom, entryBytes, entriesFrom, headerFields, headerBytes, endFrom, shpBytes, shxBytes}
+use Rattle.format.specs.Encoding.{Box, doubles, pointBytes, boxBytes, startsFrom, valueBytes, measureBytes, partsBytes, shapeBytes, content, shapeWords, twoBig, recordBytes, recordsFrom, entryBytes, entriesFrom, headerFields, headerBytes, endFrom, shpBytes, shxBytes}
 use Rattle.format.specs.Kinds.{kindAt, found, kindOf, isKind, known}
 use Rattle.format.specs.Lengths.{Form, nothing, onePoint, given, fixedWords, pointWords, contentWords, formOf, lengthsFor, lengthsOf}
 use Rattle.format.specs.Lengths
-use Rattle.format.specs.Numbers.{big, little, double, beI32, leI32, leF64, doublesAt, i32Be, i32Le, f64Le, f64sLe}
+use Rattle.format.specs.Numbers.{big, little, double, beI32, leI32, leF64, i32Be, i32Le, f64Le, f64sLe}
 use Rattle.format.specs.Shapes.{Point, BoxXY, Parts, Shape, null, point, parted, there, partsIn, pointsIn}
-use Rattle.format.specs.WellFormed.{hasRings, leastPoints, closedRing, samePlace, lastFrom}
+use Rattle.format.specs.WellFormed.{hasRings, leastPoints}
 
 -- ---- bytes
 
 pub field-is : (n at : ℕ) (s : List ℕ) → field n at s ≡ take n (drop at s)
 unfolding field
 field-is n at s = refl
-
-pub le-nil : le [] ≡ 0
-unfolding le
-le-nil = refl
-
-pub le-cons : (b : ℕ) (bs : List ℕ) → le (b ∷ bs) ≡ b + 256 * le bs
-unfolding le
-le-cons b bs = refl
 
 pub leBytes-zero : (x : ℕ) → leBytes 0 x ≡ []
 unfolding leBytes
@@ -71,14 +63,6 @@ leI32-is at s = refl
 pub leF64-is : (at : ℕ) (s : List ℕ) → leF64 at s ≡ ofBits binary64 (le (field 8 at s))
 unfolding leF64
 leF64-is at s = refl
-
-pub doublesAt-zero : (at : ℕ) (s : List ℕ) → doublesAt 0 at s ≡ []
-unfolding doublesAt
-doublesAt-zero at s = refl
-
-pub doublesAt-suc : (n at : ℕ) (s : List ℕ) → doublesAt (suc n) at s ≡ leF64 at s ∷ doublesAt n (at + 8) s
-unfolding doublesAt
-doublesAt-suc n at s = refl
 
 pub i32Be-is : (z : ℤ) → i32Be z ≡ big (ofZ w32 z)
 unfolding i32Be
@@ -126,10 +110,6 @@ pub fixed-point : (z m : Bool) → fixedWords onePoint z m ≡ 10 + given z 4 + 
 unfolding fixedWords
 fixed-point z m = refl
 
-pub fixed-parts : (z m : Bool) → fixedWords Lengths.parts z m ≡ 22 + given z 8 + given m 8
-unfolding fixedWords
-fixed-parts z m = refl
-
 pub each-nothing : (z m : Bool) → pointWords nothing z m ≡ 0
 unfolding pointWords
 each-nothing z m = refl
@@ -137,10 +117,6 @@ each-nothing z m = refl
 pub each-point : (z m : Bool) → pointWords onePoint z m ≡ 0
 unfolding pointWords
 each-point z m = refl
-
-pub each-parts : (z m : Bool) → pointWords Lengths.parts z m ≡ 8 + given z 4 + given m 4
-unfolding pointWords
-each-parts z m = refl
 
 -- ---- counts, and what a shape's parts are
 
@@ -176,19 +152,7 @@ pub least-is : (k : Kind) → leastPoints k ≡ cond (hasRings k) 4 2
 unfolding leastPoints
 least-is k = refl
 
-pub closedRing-cons : (p : Point) (ps : List Point) → closedRing (p ∷ ps) ≡ samePlace p (lastFrom p ps)
-unfolding closedRing
-closedRing-cons p ps = refl
-
 -- ---- the encoding of a shape
-
-pub doubles-nil : doubles [] ≡ []
-unfolding doubles flatten
-doubles-nil = refl
-
-pub doubles-cons : (d : ℕ) (ds : List ℕ) → doubles (d ∷ ds) ≡ double d ++ doubles ds
-unfolding doubles flatten
-doubles-cons d ds = refl
 
 pub pointBytes-is : (p : Point) → pointBytes p ≡ double (p .x) ++ double (p .y)
 unfolding pointBytes
@@ -234,10 +198,6 @@ pub content-bytes : (k : Kind) (s : Shape) → content k s ≡ little (k .code) 
 unfolding content
 content-bytes k s = refl
 
-pub words-null : shapeWords null ≡ contentWords nothing false false 0 0
-unfolding shapeWords
-words-null = refl
-
 pub words-point : (xy : Point) (z m : Option ℕ) → shapeWords (point xy z m) ≡ contentWords onePoint (there z) (there m) 0 1
 unfolding shapeWords
 words-point xy z m = refl
@@ -247,10 +207,6 @@ unfolding shapeWords
 words-parted s = refl
 
 -- ---- and of records, entries, headers and files
-
-pub two-is : (a b : ℕ) → twoBig a b ≡ big a ++ big b
-unfolding twoBig
-two-is a b = refl
 
 pub record-is : (k : Kind) (n : ℕ) (s : Shape) → recordBytes k n s ≡ twoBig n (shapeWords s) ++ content k s
 unfolding recordBytes
@@ -263,14 +219,6 @@ records-nil k n = refl
 pub records-cons : (k : Kind) (n : ℕ) (s : Shape) (ss : List Shape) → recordsFrom k n (s ∷ ss) ≡ recordBytes k n s ++ recordsFrom k (n + 1) ss
 unfolding recordsFrom
 records-cons k n s ss = refl
-
-pub entries-nil : (w : ℕ) → entriesFrom w [] ≡ []
-unfolding entriesFrom
-entries-nil w = refl
-
-pub entries-cons : (w : ℕ) (s : Shape) (ss : List Shape) → entriesFrom w (s ∷ ss) ≡ record { offset = w; words = shapeWords s } ∷ entriesFrom (w + (4 + shapeWords s)) ss
-unfolding entriesFrom
-entries-cons w s ss = refl
 
 pub end-nil : (w : ℕ) → endFrom w [] ≡ w
 unfolding endFrom

@@ -7,14 +7,8 @@ use native.Mathlib.Numerals.{add-one}
 use native.Mathlib.Omega.{arith}
 use lib.ListN.{length, getD, take, drop, set, length-append, drop-of-length-le}
 use lib.Seq.{drop-cons, sets, sets-eq, set-comm, take-at, drop-append-add, drop-drop, take-add, take-take, take-nil}
-use lib.IntN.{ℤ}
-use mir.Syntax.{w32}
-use mir.Val.{ofZ}
 use Rattle.format.specs.Bytes.{field}
-use Rattle.format.specs.Encoding.{twoBig}
-use Rattle.format.specs.Numbers.{big, i32Be}
 use Rattle.format.specs.Shapes.{sum}
-use Rattle.format.proofs.NumberLaws.{length-big}
 
 abbrev pub widths : List (List ℕ) → List ℕ
 widths fs = map length fs
@@ -63,10 +57,6 @@ sets-snoc (v ∷ vs) l i a =
     ∙ ap (λ (x : List ℕ). sets x (suc i) vs)
     (ap (λ (k : ℕ). set (set l i v) k a) (suc-add i (length vs) ∙ sym (add-suc i (length vs)))
     ∙ set-comm l i (i + suc (length vs)) v a (omega arith))
-
-pub two-stored : (out l m : List ℕ) (a b : ℤ) → l ≡ sets out 0 (i32Be a) → m ≡ sets l 4 (i32Be b) → m ≡ sets out 0 (twoBig (ofZ w32 a) (ofZ w32 b))
-unfolding twoBig i32Be
-two-stored out l m a b e f = onto out l m (big (ofZ w32 a)) (big (ofZ w32 b)) 0 4 (omega (arith, length-big (ofZ w32 a))) e f
 
 -- ---- bytes cut into fields of given widths
 

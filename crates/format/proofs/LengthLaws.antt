@@ -146,11 +146,11 @@ least : (a b c : ℕ) → 2 ≤ a → 2 ≤ a + b + c
 least a b c h = omega arith
 
 -- the kind's field at least
-pub least-words : (f : Form) (z m : Bool) (p n : ℕ) → 2 ≤ contentWords f z m p n
+pub some-words : (f : Form) (z m : Bool) (p n : ℕ) → 2 ≤ contentWords f z m p n
 unfolding contentWords fixedWords
-least-words nothing z m p n = least _ _ _ (omega arith)
-least-words onePoint z m p n = least _ _ _ (omega arith)
-least-words parts z m p n = least _ _ _ (omega arith)
+some-words nothing z m p n = least _ _ _ (omega arith)
+some-words onePoint z m p n = least _ _ _ (omega arith)
+some-words parts z m p n = least _ _ _ (omega arith)
 
 module _ (f : Formula) (p n : ℕ) where
   pub counted-long : Long ≡ counted f p n → 2 ^ 31 ≤ formulaWords f p n

@@ -8,6 +8,7 @@ use lib.Ieee.{Float, binary64, ofBits, ofInt, toBits, fits}
 use lib.Ieee.Bits.{ofBits-toBits, toBits-lt, ofBits-fits}
 use lib.IntN.{ℤ, pos}
 use lib.ListN.{length, getD, length-append}
+use lib.Seq.{sets}
 use mir.Syntax.{w32}
 use mir.Val.{SFits, toZ, ofZ}
 use mir.ValLaws.{toZ-ofZ, ofZ-toZ, ofZ-fits}
@@ -15,6 +16,7 @@ use Rattle.format.specs.Bytes.{le, be, leBytes, beBytes, field}
 use Rattle.format.specs.Encoding.{doubles, twoBig}
 use Rattle.format.specs.Numbers.{big, little, double, beI32, leI32, leF64, doublesAt, i32Be, i32Le, f64Le, f64sLe, PlainNan}
 use Rattle.format.proofs.ByteLaws.{AllBytes, length-leBytes, length-beBytes, le-leBytes, be-beBytes, leBytes-field, beBytes-field, le-field-lt, be-field-lt}
+use Rattle.format.proofs.LayoutLaws.{onto}
 use Rattle.format.proofs.NanLaws.{bits-back, back-plain}
 
 -- ---- widths
@@ -92,6 +94,9 @@ doubles-end n at i s h =
 pub two-i32 : (a b : ℤ) → twoBig (ofZ w32 a) (ofZ w32 b) ≡ i32Be a ++ i32Be b
 unfolding twoBig i32Be
 two-i32 a b = refl
+
+pub two-stored : (out l m : List ℕ) (a b : ℤ) → l ≡ sets out 0 (i32Be a) → m ≡ sets l 4 (i32Be b) → m ≡ sets out 0 (twoBig (ofZ w32 a) (ofZ w32 b))
+two-stored out l m a b e f = rw two-i32 (onto out l m (i32Be a) (i32Be b) 0 4 (simp length-i32Be) e f)
 
 pub zero-bits : ofBits binary64 0 ≡ ofInt binary64 (pos 0)
 unfolding ofBits ofInt

@@ -19,7 +19,7 @@ use Rattle.format.specs.Said.{Said, gives, unlessRefused}
 use Rattle.format.specs.Shapes.{Shape, sum}
 use Rattle.format.proofs.Equations as Equations
 use Rattle.format.proofs.Equations.{f64Le-is, f64sLe-nil, f64sLe-cons, words-are, fixed-point, each-point, pointBytes-is, shape-point, shape-parted, content-bytes}
-use Rattle.format.proofs.LengthLaws.{least-words}
+use Rattle.format.proofs.LengthLaws.{some-words}
 use Rattle.header.specs.declared.bbox.BBoxZ.{BBoxZ}
 use Rattle.layouts.specs.declared.LayoutAnswer.{LayoutAnswer}
 use Rattle.layouts.specs.Answers.{bodySize, layoutOf, WritesBody}
@@ -92,7 +92,7 @@ module _ (k : Kind) (b : BBoxZ) (counts : List ℕ) (xy zs ms : List Float) wher
 -- ---- the record
 
 pub words-least : (k : Kind) (counts : List ℕ) → 2 ≤ wordsBy k counts
-words-least k counts = least-words (formBy k) (k .z) (k .m) (length counts) (pointsBy k counts)
+words-least k counts = some-words (formBy k) (k .z) (k .m) (length counts) (pointsBy k counts)
 
 pub record-is : (k : Kind) (s : Shape) (n w : ℕ) (content : Words) (code : ℤ) → content ≡ wordsOf w → shapeWords s ≡ w → code ≡ pos (k .code) → twoBig n (ofZ w32 (content .0)) ++ (little (ofZ w32 code) ++ shapeBytes s) ≡ recordBytes k n s
 record-is k s n w content code e f g = rw (e, g, Equations.record-is, content-bytes, f)

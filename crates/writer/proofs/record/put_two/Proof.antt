@@ -6,7 +6,7 @@ use mir.Syntax.{w32}
 use mir.ValLaws.{toZ-ofZ}
 use borrow.Author.Needs.{needs}
 use Rattle.format.specs.Numbers.{i32Be}
-use Rattle.format.proofs.LayoutLaws.{two-stored}
+use Rattle.format.proofs.NumberLaws.{two-stored}
 use Rattle.writer.proofs.record.put_two.Statement.{statement}
 use Rattle.writer.proofs.record.put_two.Tie as tie
 
