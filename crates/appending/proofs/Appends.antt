@@ -8,7 +8,7 @@ use lib.ListN.{length, length-append}
 use Rattle.format.specs.Encoding.{Box, recordBytes, entryBytes, endFrom, headerBytes, shpBytes, shxBytes, shapeWords}
 use Rattle.format.specs.Shapes.{Shape}
 use Rattle.format.proofs.Equations.{shp-is, shx-is}
-use Rattle.format.proofs.More.{records-more, end-more, entries-more}
+use Rattle.format.proofs.Records.{records-more, end-more, entries-more}
 use Rattle.header.specs.Box.{boxBits}
 use Rattle.writer.specs.declared.State.{State}
 use Rattle.writer.specs.Adding.{Lent, lentKind, lentShape, recordOf, entryOf, nextState}

@@ -138,8 +138,7 @@ known-there z = go (kindAt z)
     go (some k) = refl
 
 pub known-some : (z : ℤ) (k : Kind) → kindAt z ≡ some k → known z ≡ true
-unfolding known kindOf
-known-some z k e = rw e
+known-some z k e = known-there z ∙ ap there e
 
 pub kindOf-neg : (z : ℤ) → ltZ z (pos 0) ≡ true → kindOf z ≡ Unknown
 unfolding kindOf
@@ -175,14 +174,9 @@ module _ (z : ℤ) (e : ltZ z (pos 0) ≡ false) (i : ℕ) (r : i ≡ rowOf (nat
 
 -- ---- codes of 32 bits
 
--- no code of the table is negative
-small-code : (z : ℤ) (k : Kind) → kindAt z ≡ some k → k .code < 2 ^ 31
-unfolding kinds
-small-code z k e = ltb-true (k .code) (2 ^ 31) (of-table (λ k. ltb (k .code) (2 ^ 31)) refl z k e)
-
 row-out : (o : Option Kind) (n : ℕ) → kindAt (pos n) ≡ o → 2 ^ 31 ≤ n → o ≡ none
 row-out none n e h = refl
-row-out (some k) n e h = absurd (omega (arith, small-code (pos n) k e, found-code n k e))
+row-out (some k) n e h = absurd (omega (arith, code-held (pos n) k e, found-code n k e))
 
 by-sign : (n m : ℕ) (b : Bool) → ltb n (2 ^ 31) ≡ b → kindAt (sel b (pos n) (negsuc m)) ≡ kindAt (pos n)
 by-sign n m true t = refl

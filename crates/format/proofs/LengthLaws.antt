@@ -70,38 +70,6 @@ pub content-is : (z : ℤ) (k : Kind) → kindAt z ≡ some k → contentOf (k .
 unfolding contentOf bind
 content-is z k e = ap (λ (o : Option Kind). taken (bind o lengthsOf)) (sym (ap kindAt (code-is z k e)) ∙ e)
 
--- ---- what a kind's form says of its code and its parts
-
-abbrev pub Flags : Kind → Form → Type 0
-Flags k nothing = (eqb (k .code) 0 ≡ true) × (k .parts ≡ false)
-Flags k onePoint = (eqb (k .code) 0 ≡ false) × (k .parts ≡ false)
-Flags k parts = (eqb (k .code) 0 ≡ false) × (k .parts ≡ true)
-
--- code 0 has no parts
-abbrev plain : Kind → Bool
-plain k = not (eqb (k .code) 0 && k .parts)
-
-pub form-flags : (z : ℤ) (k : Kind) (f : Form) → kindAt z ≡ some k → formOf k ≡ some f → Flags k f
-unfolding formOf kinds
-form-flags z k f h e = go (eqb (k .code) 8 || eqb (k .code) 18 || eqb (k .code) 28 || eqb (k .code) 31) (eqb (k .code) 0) (k .parts) refl refl (of-table plain refl z k h) e
-  where
-    go : (u n p : Bool) → eqb (k .code) 0 ≡ n → k .parts ≡ p → not (n && p) ≡ true → cond u none (cond n (some nothing) (cond p (some parts) (some onePoint))) ≡ some f → Flags k f
-    go true n p a b t e = absurd (let z : _≡_ {A = ℕ} 0 1 = cc in omega arith)
-    go false true true a b t e = absurd (let z : _≡_ {A = ℕ} 0 1 = cc in omega arith)
-    go false true false a b t e = let q : nothing ≡ f = cc in rw (← q) (a, b)
-    go false false true a b t e = let q : parts ≡ f = cc in rw (← q) (a, b)
-    go false false false a b t e = let q : onePoint ≡ f = cc in rw (← q) (a, b)
-
--- ---- what a formula comes to
-
--- at least the fixed words, the starts, and x and y
-pub least-words : (z m : Bool) (p n : ℕ) → 22 + 2 * p + 8 * n ≤ contentWords parts z m p n
-unfolding contentWords fixedWords pointWords
-least-words true true p n = omega arith
-least-words true false p n = omega arith
-least-words false true p n = omega arith
-least-words false false p n = omega arith
-
 -- ---- the form of a kind: its lengths are those of its form, and a taken kind has the one that its code and flags say
 
 module _ (k : Kind) where
@@ -140,10 +108,39 @@ module _ (k : Kind) where
         go none q = absurd (let z : _≡_ {A = ℕ} 0 1 = cc in omega arith)
         go (some x) q = cc
 
+-- ---- what a kind's form says of its code and its parts
+
+abbrev pub Flags : Kind → Form → Type 0
+Flags k nothing = (eqb (k .code) 0 ≡ true) × (k .parts ≡ false)
+Flags k onePoint = (eqb (k .code) 0 ≡ false) × (k .parts ≡ false)
+Flags k parts = (eqb (k .code) 0 ≡ false) × (k .parts ≡ true)
+
+-- code 0 has no parts
+abbrev plain : Kind → Bool
+plain k = not (eqb (k .code) 0 && k .parts)
+
+pub form-flags : (z : ℤ) (k : Kind) (f : Form) → kindAt z ≡ some k → formOf k ≡ some f → Flags k f
+unfolding kinds
+form-flags z k f h e = go (eqb (k .code) 0) (k .parts) refl refl (of-table plain refl z k h) (form-by k f e)
+  where
+    go : (n p : Bool) → eqb (k .code) 0 ≡ n → k .parts ≡ p → not (n && p) ≡ true → f ≡ cond n nothing (cond p parts onePoint) → Flags k f
+    go true true a b t e = absurd (let z : _≡_ {A = ℕ} 0 1 = cc in omega arith)
+    go true false a b t e = rw e (a, b)
+    go false true a b t e = rw e (a, b)
+    go false false a b t e = rw e (a, b)
+
 -- ---- what a formula comes to
 
 least : (a b c : ℕ) → 2 ≤ a → 2 ≤ a + b + c
 least a b c h = omega arith
+
+-- at least the fixed words, the starts, and x and y
+pub least-words : (z m : Bool) (p n : ℕ) → 22 + 2 * p + 8 * n ≤ contentWords parts z m p n
+unfolding contentWords fixedWords pointWords
+least-words true true p n = omega arith
+least-words true false p n = omega arith
+least-words false true p n = omega arith
+least-words false false p n = omega arith
 
 -- the kind's field at least
 pub some-words : (f : Form) (z m : Bool) (p n : ℕ) → 2 ≤ contentWords f z m p n

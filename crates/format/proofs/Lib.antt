@@ -9,7 +9,6 @@ pub mod KindLaws
 pub mod Laid
 pub mod LayoutLaws
 pub mod LengthLaws
-pub mod More
 pub mod NanLaws
 pub mod NumberLaws
 pub mod OrderLaws

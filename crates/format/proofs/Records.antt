@@ -1,13 +1,13 @@
 -- Records and index entries: where their fields stand and what is read there, of one record and of a list of shapes.
-use mathlib.Core.Path.{_≡_, refl}
-use mathlib.Core.List.{List, [], _∷_, _++_, map, flatten}
+use mathlib.Core.Path.{_≡_, refl, sym, ap, _∙_}
+use mathlib.Core.List.{List, [], _∷_, _++_, map, flatten, append-assoc, append-nil}
 use Prim.Native.Nat.{ℕ, zero, suc, _+_, _*_, _^_, _≤_, _<_}
 use native.Mathlib.Nat.{add-zero}
 use native.Mathlib.Omega.{arith}
 use lib.ListN.{length, take, getD, length-append}
 use Rattle.format.specs.declared.kinds.Kind.{Kind}
 use Rattle.format.specs.Bytes.{le, be, field}
-use Rattle.format.specs.Encoding.{shapeBytes, shapeWords, content, twoBig, recordBytes, entriesFrom, entryBytes, endFrom, Held, HeldFrom}
+use Rattle.format.specs.Encoding.{shapeBytes, shapeWords, content, twoBig, recordBytes, recordsFrom, entriesFrom, entryBytes, endFrom, Held, HeldFrom}
 use Rattle.format.specs.Numbers.{big, little}
 use Rattle.format.specs.Shapes.{Shape, null}
 use Rattle.format.proofs.ByteLaws.{AllBytes}
@@ -101,3 +101,26 @@ held-at n w (q ∷ ss) zero h j = (rw add-zero (h .0), h .1, h .2)
 held-at n w (q ∷ ss) (suc i) h j =
     let number : n + 1 + i ≡ n + suc i = omega arith in
     rw (← number) (held-at (n + 1) (w + (4 + shapeWords q)) ss i (h .5) (omega arith))
+
+-- ---- one record more behind the others: its number is one more than theirs, and it stands where they end
+
+pub records-more : (k : Kind) (n : ℕ) (ss : List Shape) (s : Shape) → recordsFrom k n (ss ++ s ∷ []) ≡ recordsFrom k n ss ++ recordBytes k (n + length ss) s
+unfolding recordsFrom
+records-more k n [] s = rw (append-nil, add-zero)
+records-more k n (r ∷ ss) s =
+    let e : n + 1 + length ss ≡ n + suc (length ss) = omega arith in
+    ap (λ (l : List ℕ). recordBytes k n r ++ l) (records-more k (n + 1) ss s ∙ ap (λ (m : ℕ). recordsFrom k (n + 1) ss ++ recordBytes k m s) e)
+    ∙ sym (append-assoc (recordBytes k n r) (recordsFrom k (n + 1) ss) (recordBytes k (n + suc (length ss)) s))
+
+pub end-more : (w : ℕ) (ss : List Shape) (s : Shape) → endFrom w (ss ++ s ∷ []) ≡ endFrom w ss + (4 + shapeWords s)
+unfolding endFrom
+end-more w [] s = refl
+end-more w (r ∷ ss) s = end-more (w + (4 + shapeWords r)) ss s
+
+pub entries-more : (w : ℕ) (ss : List Shape) (s : Shape) → entriesBytes w (ss ++ s ∷ []) ≡ entriesBytes w ss ++ twoBig (endFrom w ss) (shapeWords s)
+unfolding entriesFrom endFrom flatten
+entries-more w [] s = append-nil _
+entries-more w (r ∷ ss) s =
+    let v = w + (4 + shapeWords r) in
+    ap (λ (l : List ℕ). twoBig w (shapeWords r) ++ l) (entries-more v ss s)
+    ∙ sym (append-assoc (twoBig w (shapeWords r)) (entriesBytes v ss) (twoBig (endFrom v ss) (shapeWords s)))

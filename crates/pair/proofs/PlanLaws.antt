@@ -2,7 +2,7 @@
 use mathlib.Core.Path.{_≡_, refl, sym, ap, _∙_}
 use mathlib.Core.Bool.{Bool, true, cond, _||_}
 use mathlib.Core.List.{List}
-use mathlib.Core.Option.{Option, none, some, Option·map}
+use mathlib.Core.Option.{Option, none, some}
 use Prim.Native.Nat.{ℕ}
 use native.Mathlib.Omega.{arith}
 use lib.Dec.{eqb}
@@ -14,12 +14,12 @@ use Rattle.format.specs.declared.lengths.Lengths.{Lengths}
 use Rattle.format.specs.declared.lengths.Content.{Content}
 use Rattle.format.specs.declared.lengths.Content.the-variants as Content
 use Rattle.format.specs.Kinds.{kindOf, kindAt}
-use Rattle.format.specs.Lengths.{Form, nothing, onePoint, parts, formOf, lengthsFor, taken, contentOf}
+use Rattle.format.specs.Lengths.{Form, nothing, onePoint, parts, contentOf}
 use Rattle.format.specs.Numbers.{leI32}
 use Rattle.format.specs.WellFormed.{hasRings, leastPoints}
-use Rattle.format.proofs.Equations.{kindOf-is, lengthsOf-is, rings-is, least-is}
-use Rattle.format.proofs.KindLaws.{named-at, found-some, found-none}
-use Rattle.format.proofs.LengthLaws.{content-is, Flags, form-flags}
+use Rattle.format.proofs.Equations.{rings-is, least-is}
+use Rattle.format.proofs.KindLaws.{named-at, kind-found, none-found}
+use Rattle.format.proofs.LengthLaws.{lengths-form, content-none, content-some, Flags, form-flags}
 use Rattle.rules.specs.Rules.{Taken, littleAt, withForm, takenOf, takenIn}
 use Rattle.rules.proofs.HeaderRules.{named}
 use Rattle.rules.proofs.FirstFault.{taken-is}
@@ -30,12 +30,9 @@ use Rattle.pair.specs.Plans.{hasParts, pointsAlone, planFor, planned, al
 
 -- ---- the kind
 
--- the kind that the header names, and the formulas beside it
+-- the kind that the header names
 kind-at : (s : List ℕ) (k : Kind) → kindOf (leI32 32 s) ≡ Found.Is k → kindAt (pos (littleAt 32 s)) ≡ some k
-kind-at s k e = sym (named-at 32 s) ∙ found-some (kindAt (leI32 32 s)) k (sym (kindOf-is (leI32 32 s)) ∙ e)
-
-content-at : (s : List ℕ) (k : Kind) → kindOf (leI32 32 s) ≡ Found.Is k → contentOf (k .code) ≡ taken (Option·map (lengthsFor k) (formOf k))
-content-at s k e = content-is (pos (littleAt 32 s)) k (kind-at s k e) ∙ ap taken (lengthsOf-is k)
+kind-at s k e = sym (named-at 32 s) ∙ kind-found (leI32 32 s) k e
 
 taken-at : (s : List ℕ) (k : Kind) → kindOf (leI32 32 s) ≡ Found.Is k → takenIn s ≡ takenOf (some k)
 taken-at s k e = taken-is s ∙ ap takenOf (kind-at s k e)
@@ -43,32 +40,16 @@ taken-at s k e = taken-is s ∙ ap takenOf (kind-at s k e)
 -- ---- the plan
 
 pub unknown : (s : List ℕ) → kindOf (leI32 32 s) ≡ Found.Unknown → NotTaken ≡ planned (takenIn s)
-unknown s e = sym (ap planned (taken-is s ∙ ap takenOf (sym (named-at 32 s) ∙ found-none (kindAt (leI32 32 s)) (sym (kindOf-is (leI32 32 s)) ∙ e))))
-
-by-form : (k : Kind) (o : Option Form) → taken (Option·map (lengthsFor k) o) ≡ Content.NotTaken → NotTaken ≡ planned (withForm k o)
-by-form k none e = refl
-by-form k (some f) e = absurd (let z : _≡_ {A = ℕ} 0 1 = cc in omega arith)
+unknown s e = sym (ap planned (taken-is s ∙ ap takenOf (sym (named-at 32 s) ∙ none-found (leI32 32 s) e)))
 
 pub not-taken : (s : List ℕ) (k : Kind) → kindOf (leI32 32 s) ≡ Found.Is k → contentOf (k .code) ≡ Content.NotTaken → NotTaken ≡ planned (takenIn s)
-not-taken s k e n = by-form k (formOf k) (sym (content-at s k e) ∙ n) ∙ sym (ap planned (taken-at s k e))
+not-taken s k e n = sym (ap planned (taken-at s k e ∙ ap (withForm k) (content-none k (pos (littleAt 32 s)) (kind-at s k e) n)))
 
 -- a kind without parts has code 0, or one point
 form-parts : (k : Kind) (f : Form) → Flags k f → (k .parts ≡ hasParts f) × (cond (eqb (k .code) 0) 0 1 ≡ pointsAlone f)
 form-parts k nothing e = (e .1, rw (e .0))
 form-parts k onePoint e = (e .1, rw (e .0))
 form-parts k parts e = (e .1, rw (e .0))
-
-module _ (k : Kind) (l : Lengths) (points least : ℕ) (rings : Bool) (ok : (f : Form) → formOf k ≡ some f → Flags k f) (ps : points ≡ cond (eqb (k .code) 0) 0 1) (rs : rings ≡ (eqb (k .code) 5 || eqb (k .code) 15 || eqb (k .code) 25)) (ls : least ≡ cond rings 4 2) where
-  plan-by : (o : Option Form) → formOf k ≡ o → taken (Option·map (lengthsFor k) o) ≡ Content.Taken l → Is (record { kind = k; parts = k .parts; points = points; rings = rings; least = least; lengths = l }) ≡ planned (withForm k o)
-  plan-by none h e = absurd (let z : _≡_ {A = ℕ} 0 1 = cc in omega arith)
-  plan-by (some f) h e =
-      let q : lengthsFor k f ≡ l = cc in
-      let p = form-parts k f (ok f h) in
-      let b = p .0 in
-      let n = ps ∙ p .1 in
-      let r = rs ∙ sym (rings-is k) in
-      let m : least ≡ leastPoints k = ls ∙ (ap (λ (x : Bool). cond x 4 2) r ∙ sym (least-is k)) in
-      λ i. Is (record { kind = k; parts = b i; points = n i; rings = r i; least = m i; lengths = sym q i })
 
 pub is-taken : (s : List ℕ) (k : Kind) (l : Lengths) (points least : ℕ) (rings : Bool)
     → kindOf (leI32 32 s) ≡ Found.Is k
@@ -78,8 +59,16 @@ pub is-taken : (s : List ℕ) (k : Kind) (l : Lengths) (points least : ℕ) (rin
     → least ≡ cond rings 4 2
     → Is (record { kind = k; parts = k .parts; points = points; rings = rings; least = least; lengths = l }) ≡ planned (takenIn s)
 is-taken s k l points least rings e n ps rs ls =
-    plan-by k l points least rings (λ f. form-flags (pos (littleAt 32 s)) k f (kind-at s k e)) ps rs ls (formOf k) refl (sym (content-at s k e) ∙ n)
-    ∙ sym (ap planned (taken-at s k e))
+    let z = pos (littleAt 32 s) in
+    let at = kind-at s k e in
+    let o = lengths-form k l (content-some k z at l n) in
+    let p = form-parts k (o .0) (form-flags z k (o .0) at (o .1)) in
+    let q = ps ∙ p .1 in
+    let r = rs ∙ sym (rings-is k) in
+    let m : least ≡ leastPoints k = ls ∙ (ap (λ (x : Bool). cond x 4 2) r ∙ sym (least-is k)) in
+    let plan : Is (record { kind = k; parts = k .parts; points = points; rings = rings; least = least; lengths = l }) ≡ planned (withForm k (some (o .0))) =
+    λ i. Is (record { kind = k; parts = p .0 i; points = q i; rings = r i; least = m i; lengths = o .2 i }) in
+    plan ∙ sym (ap planned (taken-at s k e ∙ ap (withForm k) (o .1)))
 
 -- a plan tells the kind that it is for
 form-told : (f : Form) → cond (hasParts f) parts (alone (pointsAlone f)) ≡ f
