@@ -41,41 +41,45 @@ module _ (z m : Bool) (s : List ℕ) (points end : ℕ) (points-are : points ≡
   pub m-range-inside : endAfter z points end + cond m 16 0 ≤ length s
   m-range-inside = rw (m-place z s points end points-are end-is) (omega (arith, ends, range-le m (pointsIn s)))
 
--- each table, and the body, by the number of its parts and of its points
-module _ (z m : Bool) (s : List ℕ) (p points : ℕ) (parts-are : p ≡ partsIn s) (points-are : points ≡ pointsIn s) where
+-- what is read with its number of parts and of points is what the definition has
+module _ (s : List ℕ) (p points : ℕ) (parts-are : p ≡ partsIn s) (points-are : points ≡ pointsIn s) where
   abbrev zPlace : ℕ
   zPlace = 40 + 4 * p + 16 * points
 
-  abbrev mPlace : ℕ
-  mPlace = endAfter z points zPlace
+  abbrev mPlace : Bool → ℕ
+  mPlace z = endAfter z points zPlace
 
-  z-here : zPlace ≡ zAt s
-  z-here = z-place s p points parts-are points-are
+  z-start : zPlace ≡ zAt s
+  z-start = z-place s p points parts-are points-are
 
-  m-here : mPlace ≡ mAt z s
-  m-here = m-place z s points zPlace points-are z-here
+  m-start : (z : Bool) → mPlace z ≡ mAt z s
+  m-start z = m-place z s points zPlace points-are z-start
 
   pub xy-here : doublesAt (2 * points) (40 + 4 * p) s ≡ xyIn s
   unfolding xyIn pairsAt
   xy-here = rw (parts-are, points-are)
 
-  pub z-values : cond z (doublesAt points (zPlace + 16) s) [] ≡ zIn z s
+  pub z-here : (z : Bool) → cond z (doublesAt points (zPlace + 16) s) [] ≡ zIn z s
   unfolding zIn
-  z-values = rw (z-here, points-are)
+  z-here z = rw (z-start, points-are)
 
-  pub m-values : cond m (map raised (doublesAt points (mPlace + 16) s)) [] ≡ mIn z m s
+  pub m-here : (z m : Bool) → cond m (map raised (doublesAt points (mPlace z + 16) s)) [] ≡ mIn z m s
   unfolding mIn
-  m-values = rw (m-here, points-are)
+  m-here z m = rw (m-start z, points-are)
 
-  pub body-here : record {
-    bbox = record { xmin = leF64 0 s; ymin = leF64 8 s; xmax = leF64 16 s; ymax = leF64 24 s };
-    «z_range» = cond z (rangeAt zPlace s) noRange;
-    «m_range» = cond m (rangeAt mPlace s) noRange;
-    parts = p;
-    points = points;
-  } ≡ bodyIn z m s
+  abbrev body : Bool → Bool → Body
+  body z m =
+      record {
+        bbox = record { xmin = leF64 0 s; ymin = leF64 8 s; xmax = leF64 16 s; ymax = leF64 24 s };
+        «z_range» = cond z (rangeAt zPlace s) noRange;
+        «m_range» = cond m (rangeAt (mPlace z) s) noRange;
+        parts = p;
+        points = points;
+      }
+
+  pub body-here : (z m : Bool) → body z m ≡ bodyIn z m s
   unfolding bodyIn
-  body-here = rw (m-here, z-here, parts-are, points-are)
+  body-here z m = rw (m-start z, z-start, parts-are, points-are)
 
 pub counts-here : (s : List ℕ) (p : ℕ) (n : ℤ) → p ≡ partsIn s → n ≡ leI32 36 s → map countOf (differencesOf p n s) ≡ countsIn s
 unfolding countsIn
@@ -113,19 +117,6 @@ module _ (z m : Bool) (s : List ℕ) (p : ℕ) (n : ℤ) (points counts xy zs ms
 
   pub m-room : cond m points 0 ≤ ms
   m-room = used-room m points ms (room-used .1)
-
-  -- what the code stores is what the definition has
-  pub counts-stored : map countOf (differencesOf p n s) ≡ countsIn s
-  counts-stored = counts-here s p n (r .parts-are) (r .number-is)
-
-  pub xy-stored : doublesAt (2 * points) (40 + 4 * p) s ≡ xyIn s
-  xy-stored = xy-here z m s p points (r .parts-are) (r .points-are)
-
-  pub z-stored : cond z (doublesAt points (40 + 4 * p + 16 * points + 16) s) [] ≡ zIn z s
-  z-stored = z-values z m s p points (r .parts-are) (r .points-are)
-
-  pub m-stored : cond m (map raised (doublesAt points (endAfter z points (40 + 4 * p + 16 * points) + 16) s)) [] ≡ mIn z m s
-  m-stored = m-values z m s p points (r .parts-are) (r .points-are)
 
 -- ---- what is said of it
 

@@ -62,7 +62,7 @@ module _ (k : Kind) (s : Parts) (o : PartsOf k s) (v : PartsHeld s) (small : Sma
 
   body-is : bodyIn (there (s .z)) (there (s .m)) (bytes s) ≡ bodyOfParts s
   body-is =
-      sym (body-here (there (s .z)) (there (s .m)) (bytes s) (parts s) (points s) (parts-are k s o v small) (points-are k s o v small))
+      sym (body-here (bytes s) (parts s) (points s) (parts-are k s o v small) (points-are k s o v small) (there (s .z)) (there (s .m)))
       ∙ rw (
         box-is 0 (lit< tt),
         box-is 1 (lit< tt),

@@ -22,7 +22,7 @@ use Rattle.format.proofs.Places.{Stands, all-behind, front, back}
 use Rattle.format.proofs.Runs.{run, length-run, i32-back, doubles-back}
 use Rattle.multipart.specs.declared.judge.Walk.the-variants.{On}
 use Rattle.multipart.specs.Body.{partsIn, countsIn, pointsIn, zAt, mAt, raised, xyIn, zIn, mIn}
-use Rattle.multipart.proofs.BodyLaws.{counts-here, xy-here, z-values, m-values}
+use Rattle.multipart.proofs.BodyLaws.{counts-here, xy-here, z-here, m-here}
 use Rattle.multipart.proofs.RestLaws.{PartsFound, parts-found}
 use Rattle.multipart.proofs.RestLaws
 use Rattle.multipart.proofs.StartLaws.{counts-laid}
@@ -155,17 +155,17 @@ module _ (k : Kind) (s : Parts) (o : PartsOf k s) (v : PartsHeld s) (small : Sma
 
   pub xy-are : xyIn (bytes s) ≡ xyOfParts s
   xy-are =
-      sym (xy-here (there (s .z)) (there (s .m)) (bytes s) (parts s) (points s) parts-are points-are)
+      sym (xy-here (bytes s) (parts s) (points s) parts-are points-are)
       ∙ doubles-back (pairsPlace s) (coordinates (flatten (s .parts))) (bytes s) (v .points)
       (front (pairsPlace s) (16 * points s) (run 8 (coordinates (flatten (s .parts)))) measures (bytes s) length-pairs at-doubles)
       (2 * points s) (length-coordinates (flatten (s .parts)))
 
   pub z-are : zIn (there (s .z)) (bytes s) ≡ valuesOf (s .z)
   z-are =
-      sym (z-values (there (s .z)) (there (s .m)) (bytes s) (parts s) (points s) parts-are points-are)
+      sym (z-here (bytes s) (parts s) (points s) parts-are points-are (there (s .z)))
       ∙ values-back (points s) (zPlace s) (bytes s) (s .z) (o .covers-z) (v .z) at-z
 
   pub m-are : mIn (there (s .z)) (there (s .m)) (bytes s) ≡ map raised (valuesOf (s .m))
   m-are =
-      sym (m-values (there (s .z)) (there (s .m)) (bytes s) (parts s) (points s) parts-are points-are)
+      sym (m-here (bytes s) (parts s) (points s) parts-are points-are (there (s .z)) (there (s .m)))
       ∙ (map-cond raised (there (s .m)) _ ∙ ap (map raised) (values-back (points s) (mPlace s) (bytes s) (s .m) (o .covers-m) (v .m) at-m))

@@ -3,16 +3,10 @@ use borrow.Author.Needs.{needs}
 use Rattle.export.proofs.headers.index_entry_read.Statement.{statement}
 use Rattle.export.proofs.headers.index_entry_read.Tie as tie
 
-returns : tie.Need-returns
-returns c = rw (c .none .ensures, c .before .before .a .given .1)
-
-returns-2 : tie.Need-returns-2
-returns-2 c = rw (c .with-number .ensures, c .before .before .a2 .given .1)
-
 pub index-entry-read-spec : {M : Type 1} → statement M
 index-entry-read-spec =
     tie.close
     (tie.spec
     (λ c. search needs) (λ c κs. search needs) (λ c. search needs) (λ c κs. search needs)
-    returns
-    returns-2)
+    (λ c. rw (c .none .ensures, c .before .before .a .given .1))
+    (λ c. rw (c .with-number .ensures, c .before .before .a2 .given .1)))

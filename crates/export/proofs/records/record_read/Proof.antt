@@ -13,44 +13,6 @@ byte-is : (m : Bool) → boolByte m ≡ cond m 1 0
 byte-is true = refl
 byte-is false = refl
 
-returns : tie.Need-returns
-returns c = rw (c .no-shape .ensures, c .before .none .ensures, c .before .before .enum-told .given .1)
-
-returns-2 : tie.Need-returns-2
-returns-2 c =
-    let g = c .before .before .before .a .given in
-    rw (c .before .none2 .ensures, back w32 (g .0 .0) (c .before .before .known-told .given .0 .1), c .no-body .ensures, g .1)
-
-returns-3 : tie.Need-returns-3
-returns-3 c =
-    let g = c .before .before .before .a2 .given in
-    rw (c .before .none3 .ensures, back w32 (g .0 .0) (c .before .before .known-told2 .given .0 .1), byte-is (g .0 .1 .0), c .no-point .ensures, g .1)
-
-returns-4 : tie.Need-returns-4
-returns-4 c = rw (c .no-shape2 .ensures, c .before .with-number .ensures, c .before .before .before .a3 .given .1)
-
-returns-5 : tie.Need-returns-5
-returns-5 c = rw (c .no-shape3 .ensures, c .before .with-number2 .ensures, c .before .before .before .a4 .given .1)
-
-returns-6 : tie.Need-returns-6
-returns-6 c =
-    let g = c .before .before .before .a5 .given in
-    rw (c .no-shape4 .ensures, one-code (g .0 .0) (c .before .before .known-told5 .given .0 .1) (c .before .with-code .ensures), g .1)
-
-returns-7 : tie.Need-returns-7
-returns-7 c =
-    let g = c .before .before .before .a6 .given in
-    let k = c .before .before .known-told6 .given in
-    rw (c .no-shape5 .ensures, two-codes (g .0 .0) (g .0 .1 .0) (k .0 .1) (k .1 .0 .1) (c .before .with-codes .ensures), g .1)
-
-returns-8 : tie.Need-returns-8
-returns-8 c = rw (c .no-shape6 .ensures, c .before .with-numbers .ensures, c .before .before .before .a7 .given .1)
-
-returns-9 : tie.Need-returns-9
-returns-9 c =
-    let g = c .before .before .before .a8 .given in
-    rw (c .no-shape7 .ensures, one-code (g .0 .0) (c .before .before .known-told8 .given .0 .1) (c .before .with-code2 .ensures), g .1)
-
 pub record-read-spec : {M : Type 1} → statement M
 record-read-spec =
     tie.close
@@ -61,12 +23,12 @@ record-read-spec =
     (λ c κs. search needs) (λ c. search needs) (λ c κs. search needs) (λ c κs. search needs) (λ c. search needs)
     (λ c κs. search needs) (λ c κs. search needs) (λ c. search needs) (λ c κs. search needs) (λ c κs. search needs)
     (λ c. search needs) (λ c κs. search needs) (λ c κs. search needs)
-    returns
-    returns-2
-    returns-3
-    returns-4
-    returns-5
-    returns-6
-    returns-7
-    returns-8
-    returns-9)
+    (λ c. rw (c .no-shape .ensures, c .before .none .ensures, c .before .before .enum-told .given .1))
+    (λ c. let g = c .before .before .before .a .given in rw (c .before .none2 .ensures, back w32 (g .0 .0) (c .before .before .known-told .given .0 .1), c .no-body .ensures, g .1))
+    (λ c. let g = c .before .before .before .a2 .given in rw (c .before .none3 .ensures, back w32 (g .0 .0) (c .before .before .known-told2 .given .0 .1), byte-is (g .0 .1 .0), c .no-point .ensures, g .1))
+    (λ c. rw (c .no-shape2 .ensures, c .before .with-number .ensures, c .before .before .before .a3 .given .1))
+    (λ c. rw (c .no-shape3 .ensures, c .before .with-number2 .ensures, c .before .before .before .a4 .given .1))
+    (λ c. let g = c .before .before .before .a5 .given in rw (c .no-shape4 .ensures, one-code (g .0 .0) (c .before .before .known-told5 .given .0 .1) (c .before .with-code .ensures), g .1))
+    (λ c. let g = c .before .before .before .a6 .given in let k = c .before .before .known-told6 .given in rw (c .no-shape5 .ensures, two-codes (g .0 .0) (g .0 .1 .0) (k .0 .1) (k .1 .0 .1) (c .before .with-codes .ensures), g .1))
+    (λ c. rw (c .no-shape6 .ensures, c .before .with-numbers .ensures, c .before .before .before .a7 .given .1))
+    (λ c. let g = c .before .before .before .a8 .given in rw (c .no-shape7 .ensures, one-code (g .0 .0) (c .before .before .known-told8 .given .0 .1) (c .before .with-code2 .ensures), g .1)))

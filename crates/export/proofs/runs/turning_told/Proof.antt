@@ -3,21 +3,12 @@ use borrow.Author.Needs.{needs}
 use Rattle.export.proofs.runs.turning_told.Statement.{statement}
 use Rattle.export.proofs.runs.turning_told.Tie as tie
 
-returns : tie.Need-returns
-returns c = rw (c .tells .ensures, c .before .enum-told .given .1)
-
-returns-2 : tie.Need-returns-2
-returns-2 c = rw (c .tells2 .ensures, c .before .enum-told2 .given .1)
-
-returns-3 : tie.Need-returns-3
-returns-3 c = rw (c .not-told .ensures, c .before .with-number .ensures, c .before .before .enum-told3 .given .1)
-
 pub turning-told-spec : {M : Type 1} → statement M
 turning-told-spec =
     tie.close
     (tie.spec
     (λ c. search needs) (λ c κs. search needs) (λ c. search needs) (λ c κs. search needs) (λ c. search needs)
     (λ c κs. search needs) (λ c κs. search needs)
-    returns
-    returns-2
-    returns-3)
+    (λ c. rw (c .tells .ensures, c .before .enum-told .given .1))
+    (λ c. rw (c .tells2 .ensures, c .before .enum-told2 .given .1))
+    (λ c. rw (c .not-told .ensures, c .before .with-number .ensures, c .before .before .enum-told3 .given .1)))

@@ -8,7 +8,7 @@ use mir.Syntax.{w32}
 use mir.ValLaws.{toZ-ofZ}
 use borrow.Author.Needs.{needs}
 use Rattle.multipart.specs.Walks.{endAfter}
-use Rattle.multipart.proofs.BodyLaws.{pairs-end, all-inside, counts-room, xy-room, z-room, m-room, counts-stored, xy-stored, z-stored, m-stored}
+use Rattle.multipart.proofs.BodyLaws.{pairs-end, all-inside, counts-room, xy-room, z-room, m-room, counts-here, xy-here, z-here, m-here}
 use Rattle.multipart.proofs.store.store_body.Statement.{statement}
 use Rattle.multipart.proofs.store.store_body.Tie as tie
 
@@ -56,10 +56,10 @@ returns c =
     let a = c .before .before .before .before .before .before .before .before .before .before .before .before .before .before .before .before .before .before .before .before .before .before .before in
     record {
       body-is = c .body-at .ensures;
-      counts-are = (rw (toZ-ofZ w32 (a .args .n) (a .fits .n)) at (c .before .before .before .before .before .before .before .before .before .before .before .before .before .before .before .before .store-counts .ensures)) ∙ ap (sets (a .args .counts .now) 0) (counts-stored _ _ _ _ _ _ _ _ _ _ (a .pre));
-      xy-are = c .before .before .before .before .before .before .before .before .before .before .before .before .store-doubles .ensures ∙ ap (sets (a .args .xy .now) 0) (xy-stored _ _ _ _ _ _ _ _ _ _ (a .pre));
-      z-are = c .before .before .before .before .before .before .before .before .store-z .ensures ∙ ap (sets (a .args .zs .now) 0) (z-stored _ _ _ _ _ _ _ _ _ _ (a .pre));
-      m-are = (rw (c .before .before .before .before .before .end-after .ensures) at (c .before .before .before .store-m .ensures)) ∙ ap (sets (a .args .ms .now) 0) (m-stored _ _ _ _ _ _ _ _ _ _ (a .pre));
+      counts-are = (rw (toZ-ofZ w32 (a .args .n) (a .fits .n)) at (c .before .before .before .before .before .before .before .before .before .before .before .before .before .before .before .before .store-counts .ensures)) ∙ ap (sets (a .args .counts .now) 0) (counts-here _ _ _ (a .pre .parts-are) (a .pre .number-is));
+      xy-are = c .before .before .before .before .before .before .before .before .before .before .before .before .store-doubles .ensures ∙ ap (sets (a .args .xy .now) 0) (xy-here _ _ _ (a .pre .parts-are) (a .pre .points-are));
+      z-are = c .before .before .before .before .before .before .before .before .store-z .ensures ∙ ap (sets (a .args .zs .now) 0) (z-here _ _ _ (a .pre .parts-are) (a .pre .points-are) _);
+      m-are = (rw (c .before .before .before .before .before .end-after .ensures) at (c .before .before .before .store-m .ensures)) ∙ ap (sets (a .args .ms .now) 0) (m-here _ _ _ (a .pre .parts-are) (a .pre .points-are) _ _);
     }
 
 pub store-body-spec : {M : Type 1} → statement M
