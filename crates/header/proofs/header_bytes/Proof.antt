@@ -17,10 +17,12 @@ fits c = search needs
 kind-is : (c : tie.After-find-kind) → known (c .before .before .args .h .«shape_type») ≡ isKind (c .find-kind .result)
 kind-is c = known-found _ _ (c .find-kind .ensures ∙ ap kindOf (toZ-ofZ w32 _ (fits (c .before .before))))
 
+-- the place is found by its type: a path to it would count what is read for the answer
 returns : tie.Need-returns
 returns c =
-    let f = c .before .before .before in
-    let e = kind-is f ∙ ap isKind (c .before .enum-told2 .given .1) in
+    let t : tie.After-enum-told2 = search needs in
+    let f = t .before .before in
+    let e = kind-is f ∙ ap isKind (t .enum-told2 .given .1) in
     record { says = rw e (ap unknown (toZ-ofZ w32 _ (fits (f .before .before)))); bytes = rw e }
 
 returns-2 : tie.Need-returns-2
