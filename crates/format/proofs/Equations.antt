@@ -2,7 +2,7 @@
 use mathlib.Core.Path.{_≡_, refl}
 use mathlib.Core.Bool.{Bool, cond, _||_}
 use mathlib.Core.List.{List, [], _∷_, _++_, map, flatten}
-use mathlib.Core.Option.{Option, Option·map}
+use mathlib.Core.Option.{Option}
 use Prim.Native.Nat.{ℕ, suc, _+_, _*_, _/_, _%_}
 use lib.Dec.{eqb}
 use lib.Ieee.{Float, binary64, ofBits, toBits}
@@ -13,8 +13,8 @@ use mir.Val.{toZ, ofZ}
 use Rattle.format.specs.declared.kinds.Kind.{Kind}
 use Rattle.format.specs.Bytes.{le, be, leBytes, beBytes, field}
 use Rattle.format.specs.Encoding.{Box, doubles, pointBytes, boxBytes, startsFrom, valueBytes, measureBytes, partsBytes, shapeBytes, content, shapeWords, twoBig, recordBytes, recordsFrom, entryBytes, entriesFrom, headerFields, headerBytes, endFrom, shpBytes, shxBytes}
-use Rattle.format.specs.Kinds.{kindAt, found, kindOf, isKind, known}
-use Rattle.format.specs.Lengths.{Form, nothing, onePoint, given, fixedWords, pointWords, contentWords, formOf, lengthsFor, lengthsOf}
+use Rattle.format.specs.Kinds.{kindOf, isKind, known}
+use Rattle.format.specs.Lengths.{Form, nothing, onePoint, given, fixedWords, pointWords, contentWords}
 use Rattle.format.specs.Lengths
 use Rattle.format.specs.Numbers.{big, little, double, beI32, leI32, leF64, i32Be, i32Le, f64Le, f64sLe}
 use Rattle.format.specs.Shapes.{Point, BoxXY, Parts, Shape, null, point, parted, there, partsIn, pointsIn}
@@ -86,17 +86,9 @@ f64sLe-cons x xs = refl
 
 -- ---- kinds and lengths
 
-pub kindOf-is : (z : ℤ) → kindOf z ≡ found (kindAt z)
-unfolding kindOf
-kindOf-is z = refl
-
 pub known-is : (z : ℤ) → known z ≡ isKind (kindOf z)
 unfolding known
 known-is z = refl
-
-pub lengthsOf-is : (k : Kind) → lengthsOf k ≡ Option·map (lengthsFor k) (formOf k)
-unfolding lengthsOf
-lengthsOf-is k = refl
 
 pub words-are : (f : Form) (z m : Bool) (p n : ℕ) → contentWords f z m p n ≡ fixedWords f z m + 2 * p + pointWords f z m * n
 unfolding contentWords

@@ -18,12 +18,12 @@ use Rattle.format.specs.Lengths.{Form, nothing, onePoint, parts, contentOf}
 use Rattle.format.specs.Numbers.{leI32}
 use Rattle.format.specs.WellFormed.{hasRings, leastPoints}
 use Rattle.format.proofs.Equations.{rings-is, least-is}
+use Rattle.format.proofs.KindLaws as Kinds
 use Rattle.format.proofs.KindLaws.{named-at, kind-found, none-found}
 use Rattle.format.proofs.LengthLaws.{lengths-form, content-none, content-some, Flags, form-flags}
 use Rattle.rules.specs.Rules.{Taken, littleAt, withForm, takenOf, takenIn}
 use Rattle.rules.proofs.HeaderRules.{named}
 use Rattle.rules.proofs.FirstFault.{taken-is}
-use Rattle.meaning.proofs.Table.{known}
 use Rattle.pair.specs.declared.plans.Plan.{Plan}
 use Rattle.pair.specs.declared.plans.Planned.the-variants.{Is, NotTaken}
 use Rattle.pair.specs.Plans.{hasParts, pointsAlone, planFor, planned, alone, takenFrom}
@@ -95,7 +95,6 @@ one-taken (some t) plan e =
 pub rings-parts : (s : List ℕ) (t : Taken) → takenIn s ≡ some t → hasRings (t .kind) ≡ true → hasParts (t .form) ≡ true
 rings-parts s t e r =
     let n = named s t e in
-    let k = known (littleAt 32 s) t (n .row) (n .form) in
-    let q : some (t .form) ≡ some parts = sym (n .form) ∙ k .rings r in
+    let q : some (t .form) ≡ some parts = sym (n .form) ∙ Kinds.rings-parts (pos (littleAt 32 s)) (t .kind) (n .row) r in
     let p : t .form ≡ parts = cc in
     ap hasParts p

@@ -13,10 +13,9 @@ use Rattle.format.specs.Lengths.{formOf}
 use Rattle.format.specs.Order.{first}
 use Rattle.format.specs.Said.{Said}
 use Rattle.format.specs.Shapes.{Shape, OfKind}
-use Rattle.format.proofs.KindLaws.{known-some}
+use Rattle.format.proofs.KindLaws.{code-held, known-some}
 use Rattle.format.proofs.Laid.{length-shape, length-content, content-code}
 use Rattle.rules.specs.Meaning.{TakenKind}
-use Rattle.meaning.proofs.Table
 use Rattle.multipart.proofs.StartLaws.{difference}
 use Rattle.record.specs.declared.Wanted.the-variants as Wants
 use Rattle.record.specs.Reading.{Shaped, codeIn, frontTests, byForm, recordOf}
@@ -25,9 +24,7 @@ use Rattle.readback.specs.ReadBack.{Small, size}
 
 module _ (k : Kind) (s : Shape) (t : TakenKind k) where
   pub code-back : codeIn (content k s) ≡ pos (k .code)
-  code-back =
-      let h = Table.known (k .code) (record { kind = k; form = t .form }) (t .in-table) (t .taken) in
-      content-code k s (h .small)
+  code-back = content-code k s (code-held (pos (k .code)) k (t .in-table))
 
   pub kind-back : kindAt (codeIn (content k s)) ≡ some k
   kind-back = rw code-back (t .in-table)
