@@ -14,7 +14,7 @@ use Rattle.format.specs.declared.kinds.Kind.{Kind}
 use Rattle.format.specs.Bytes.{le, be, leBytes, beBytes, field}
 use Rattle.format.specs.Encoding.{Box, doubles, pointBytes, boxBytes, startsFrom, valueBytes, measureBytes, partsBytes, shapeBytes, content, shapeWords, twoBig, recordBytes, recordsFrom, entryBytes, entriesFrom, headerFields, headerBytes, endFrom, shpBytes, shxBytes}
 use Rattle.format.specs.Kinds.{kindOf, isKind, known}
-use Rattle.format.specs.Lengths.{Form, nothing, onePoint, given, fixedWords, pointWords, contentWords}
+use Rattle.format.specs.Lengths.{Form, onePoint, given, fixedWords, pointWords, contentWords}
 use Rattle.format.specs.Lengths
 use Rattle.format.specs.Numbers.{big, little, double, beI32, leI32, leF64, i32Be, i32Le, f64Le, f64sLe}
 use Rattle.format.specs.Shapes.{Point, BoxXY, Parts, Shape, null, point, parted, there, partsIn, pointsIn}
@@ -94,17 +94,9 @@ pub words-are : (f : Form) (z m : Bool) (p n : ℕ) → contentWords f z m p n �
 unfolding contentWords
 words-are f z m p n = refl
 
-pub fixed-nothing : (z m : Bool) → fixedWords nothing z m ≡ 2
-unfolding fixedWords
-fixed-nothing z m = refl
-
 pub fixed-point : (z m : Bool) → fixedWords onePoint z m ≡ 10 + given z 4 + given m 4
 unfolding fixedWords
 fixed-point z m = refl
-
-pub each-nothing : (z m : Bool) → pointWords nothing z m ≡ 0
-unfolding pointWords
-each-nothing z m = refl
 
 pub each-point : (z m : Bool) → pointWords onePoint z m ≡ 0
 unfolding pointWords

@@ -13,6 +13,7 @@ pub mod NanLaws
 pub mod NumberLaws
 pub mod OrderLaws
 pub mod Pairs
+pub mod PartsStand
 pub mod Places
 pub mod Records
 pub mod Rings

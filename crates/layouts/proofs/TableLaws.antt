@@ -41,7 +41,7 @@ length-points [] = refl
 length-points (x ∷ []) = refl
 length-points (x ∷ y ∷ xy) = omega (arith, length-points xy)
 
-points-are : (xy : List Float) → length xy % 2 ≡ 0 → coordinates (pointsOf xy) ≡ map bits xy
+pub points-are : (xy : List Float) → length xy % 2 ≡ 0 → coordinates (pointsOf xy) ≡ map bits xy
 points-are [] e = refl
 points-are (x ∷ []) e = absurd (omega arith)
 points-are (x ∷ y ∷ xy) e = ap (λ (l : List ℕ). bits x ∷ bits y ∷ l) (points-are xy (omega arith))

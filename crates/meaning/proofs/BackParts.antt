@@ -8,22 +8,21 @@ use native.Mathlib.Omega.{arith}
 use lib.ListN.{length, getD}
 use borrow.Author.Tests.{le-leb, lt-ltb, eq-eqb}
 use Rattle.format.specs.declared.kinds.Kind.{Kind}
-use Rattle.format.specs.Bytes.{leBytes}
 use Rattle.format.specs.Encoding.{startsFrom, shapeBytes, shapeWords, Held}
 use Rattle.format.specs.Lengths.{contentWords}
 use Rattle.format.specs.Lengths
 use Rattle.format.specs.Shapes.{Parts, parted, there, PartsOf}
 use Rattle.format.specs.WellFormed.{hasRings, leastPoints, AllFinite, PartsFine, PartsWellFormed}
-use Rattle.format.proofs.ByteLaws.{length-leBytes}
 use Rattle.format.proofs.Equations.{words-parted}
 use Rattle.format.proofs.FiniteLaws.{finite-fit, finite-parts}
-use Rattle.format.proofs.Places.{Stands, front, back, le-back}
-use Rattle.format.proofs.Runs.{numbers, four-numbers, numbers-back, run, length-run}
+use Rattle.format.proofs.PartsStand.{box-stands, parts-stand, points-stand, starts-stand, doubles-stand}
+use Rattle.format.proofs.Places.{Stands, le-back}
+use Rattle.format.proofs.Runs.{numbers, four-numbers, numbers-back}
 use Rattle.format.proofs.Cuts.{fit-starts, cut, endsFrom, Rise, rise-fine, starts-ends, length-startsFrom, cut-ends}
 use Rattle.format.proofs.Doubles.{measured, writeIf, z-back}
 use Rattle.format.proofs.Pairs.{length-pairs, pairs, pairs-read}
 use Rattle.format.proofs.Doubles
-use Rattle.format.proofs.Laid.{parts-words, boxDoubles, partsDoubles, doubles-are, parts-laid, covers-right, length-doubles}
+use Rattle.format.proofs.Laid.{parts-words, boxDoubles, partsDoubles, doubles-are, covers-right, length-doubles}
 use Rattle.rules.specs.Rules.{littleAt, wordsOf, pairsAt, ringsClosed}
 use Rattle.rules.proofs.FiniteLaws.{finites-true}
 use Rattle.rules.proofs.Ends.{endsAt, starts-at, of-rise, at-point, parts-closed}
@@ -41,44 +40,20 @@ module _ (k : Kind) (l : List ℕ) (s : Parts) (o : PartsOf k s) (v : PartsWellF
   abbrev starts : List ℕ
   starts = startsFrom 0 (s .parts)
 
-  length-starts : length (run 4 starts) ≡ 4 * p
-  length-starts = length-run 4 starts ∙ ap (λ (i : ℕ). 4 * i) (length-startsFrom 0 (s .parts))
-
-  -- the fields, one behind the other
-  abbrev from48 : List ℕ
-  from48 = run 4 starts ++ run 8 (partsDoubles s)
-
-  at12 : Stands 12 (run 8 (boxDoubles (s .box)) ++ (leBytes 4 p ++ (leBytes 4 n ++ from48))) l
-  at12 = rw (parts-laid s) at st
-
-  at44 : Stands 44 (leBytes 4 p ++ (leBytes 4 n ++ from48)) l
-  at44 = back 12 32 (run 8 (boxDoubles (s .box))) (leBytes 4 p ++ (leBytes 4 n ++ from48)) l (length-run 8 (boxDoubles (s .box))) at12
-
-  at48 : Stands 48 (leBytes 4 n ++ from48) l
-  at48 = back 44 4 (leBytes 4 p) (leBytes 4 n ++ from48) l (length-leBytes 4 p) at44
-
-  at52 : Stands 52 (run 4 starts ++ run 8 (partsDoubles s)) l
-  at52 = back 48 4 (leBytes 4 n) from48 l (length-leBytes 4 n) at48
-
-  at-pairs : Stands (52 + 4 * p) (run 8 (partsDoubles s)) l
-  at-pairs = back 52 (4 * p) (run 4 starts) (run 8 (partsDoubles s)) l length-starts at52
-
   -- what is read from them
   pub parts-read : littleAt 44 l ≡ p
-  parts-read = le-back 4 p 44 l (omega arith) (front 44 4 (leBytes 4 p) (leBytes 4 n ++ from48) l (length-leBytes 4 p) at44)
+  parts-read = le-back 4 p 44 l (omega arith) (parts-stand s 12 l st)
 
   pub points-read : littleAt 48 l ≡ n
-  points-read = le-back 4 n 48 l (omega arith) (front 48 4 (leBytes 4 n) from48 l (length-leBytes 4 n) at48)
+  points-read = le-back 4 n 48 l (omega arith) (points-stand s 12 l st)
 
   box-read : numbers 8 4 12 l ≡ boxDoubles (s .box)
-  box-read =
-      numbers-back 8 12 (boxDoubles (s .box)) l (finite-fit (boxDoubles (s .box)) (v .box))
-      (front 12 32 (run 8 (boxDoubles (s .box))) (leBytes 4 p ++ (leBytes 4 n ++ from48)) l (length-run 8 (boxDoubles (s .box))) at12)
+  box-read = numbers-back 8 12 (boxDoubles (s .box)) l (finite-fit (boxDoubles (s .box)) (v .box)) (box-stands s 12 l st)
 
   starts-read : numbers 4 p 52 l ≡ starts
   starts-read =
       rw (length-startsFrom 0 (s .parts)) at
-      (numbers-back 4 52 starts l (fit-starts 0 (s .parts) (omega arith)) (front 52 (4 * p) (run 4 starts) (run 8 (partsDoubles s)) l length-starts at52))
+      (numbers-back 4 52 starts l (fit-starts 0 (s .parts) (omega arith)) (starts-stand s 12 l st))
 
   finite-all : AllFinite (partsDoubles s)
   finite-all = finite-parts s k v
@@ -97,7 +72,7 @@ module _ (k : Kind) (l : List ℕ) (s : Parts) (o : PartsOf k s) (v : PartsWellF
   place-read = ap (λ (i : ℕ). 52 + 4 * i) parts-read
 
   doubles-read : numbers 8 (partsCount k l) (pairsAt l) l ≡ partsDoubles s
-  doubles-read = rw (count-read, place-read) (numbers-back 8 (52 + 4 * p) (partsDoubles s) l (finite-fit (partsDoubles s) finite-all) at-pairs)
+  doubles-read = rw (count-read, place-read) (numbers-back 8 (52 + 4 * p) (partsDoubles s) l (finite-fit (partsDoubles s) finite-all) (doubles-stand s 12 l st))
 
   some-part : 1 ≤ littleAt 44 l
   some-part = rw parts-read (v .some-part)

@@ -15,10 +15,11 @@ use Rattle.format.proofs.Equations.{least-is}
 use Rattle.rules.specs.Rules.{Taken, Counts, bigAt, littleAt, wordsOf, partsOf, pointsOf, finites, partsLong, ringsClosed, P14, P15, P16, shapeRules, recordFault, walkFrom}
 use Rattle.rules.proofs.PlaceLaws.{big-drop, little-drop, finites-drop, parts-drop, rings-drop}
 use Rattle.rules.proofs.Turns.{parts-done}
+use Rattle.rules.proofs.WalkLaws.{broken, met-all}
 use Rattle.pair.specs.declared.plans.Plan.{Plan}
 use Rattle.pair.specs.Plans.{hasParts, pointsAlone, planFor, takenFrom}
 use Rattle.pair.specs.Verdicts.{headFault}
-use Rattle.pair.proofs.RecordLaws.{broken, met-all, by-head, by-shape}
+use Rattle.pair.proofs.RecordLaws.{by-head, by-shape}
 use Rattle.pair.proofs.ShapeLaws.{Head, head-told, parts-of, points-of, at-most-one, beginsOf, shape14, shape15, shape16}
 
 abbrev pub counts : ℕ → ℕ → ℕ → Counts

@@ -7,17 +7,15 @@ use native.Mathlib.Omega.{arith}
 use lib.IntN.{pos, natAbs}
 use lib.ListN.{length}
 use Rattle.format.specs.declared.kinds.Kind.{Kind}
-use Rattle.format.specs.Bytes.{leBytes}
 use Rattle.format.specs.Encoding.{startsFrom, shapeBytes, shapeWords}
 use Rattle.format.specs.Numbers.{leI32}
 use Rattle.format.specs.Shapes.{Parts, parted, there, PartsOf}
 use Rattle.format.specs.WellFormed.{coordinates}
-use Rattle.format.proofs.ByteLaws.{length-leBytes}
-use Rattle.format.proofs.Cuts.{length-startsFrom}
 use Rattle.format.proofs.Doubles.{measured, count}
 use Rattle.format.proofs.Equations.{words-parted}
-use Rattle.format.proofs.Laid.{parts-words, boxDoubles, partsDoubles, parts-laid, doubles-laid, length-shape}
+use Rattle.format.proofs.Laid.{parts-words, boxDoubles, parts-laid, doubles-laid, length-shape}
 use Rattle.format.proofs.Pairs.{length-coordinates}
+use Rattle.format.proofs.PartsStand.{box-stands, parts-stand, points-stand, starts-stand, doubles-stand}
 use Rattle.format.proofs.Places.{Stands, all-behind, front, back}
 use Rattle.format.proofs.Runs.{run, length-run, i32-back, doubles-back}
 use Rattle.multipart.specs.declared.judge.Walk.the-variants.{On}
@@ -72,35 +70,14 @@ module _ (k : Kind) (s : Parts) (o : PartsOf k s) (v : PartsHeld s) (small : Sma
 
   -- ---- where each of them stands
 
-  abbrev starts : List ℕ
-  starts = startsFrom 0 (s .parts)
-
-  abbrev behind36 : List ℕ
-  behind36 = run 4 starts ++ run 8 (partsDoubles s)
-
-  abbrev behind32 : List ℕ
-  behind32 = leBytes 4 (points s) ++ behind36
-
-  at0 : Stands 0 (run 8 (boxDoubles (s .box)) ++ (leBytes 4 (parts s) ++ behind32)) (bytes s)
-  at0 = all-behind 0 _ (bytes s) (parts-laid s)
+  whole : Stands 0 (bytes s) (bytes s)
+  whole = all-behind 0 (bytes s) (bytes s) refl
 
   pub at-box : Stands 0 (run 8 (boxDoubles (s .box))) (bytes s)
-  at-box = front 0 32 (run 8 (boxDoubles (s .box))) (leBytes 4 (parts s) ++ behind32) (bytes s) (length-run 8 (boxDoubles (s .box))) at0
+  at-box = box-stands s 0 (bytes s) whole
 
-  at32 : Stands 32 (leBytes 4 (parts s) ++ behind32) (bytes s)
-  at32 = back 0 32 (run 8 (boxDoubles (s .box))) (leBytes 4 (parts s) ++ behind32) (bytes s) (length-run 8 (boxDoubles (s .box))) at0
-
-  at36 : Stands 36 (leBytes 4 (points s) ++ behind36) (bytes s)
-  at36 = back 32 4 (leBytes 4 (parts s)) behind32 (bytes s) (length-leBytes 4 (parts s)) at32
-
-  at40 : Stands 40 behind36 (bytes s)
-  at40 = back 36 4 (leBytes 4 (points s)) behind36 (bytes s) (length-leBytes 4 (points s)) at36
-
-  length-starts : length (run 4 starts) ≡ 4 * parts s
-  length-starts = rw (length-run 4 starts, length-startsFrom 0 (s .parts))
-
-  at-starts : Stands 40 (run 4 starts) (bytes s)
-  at-starts = front 40 (4 * parts s) (run 4 starts) (run 8 (partsDoubles s)) (bytes s) length-starts at40
+  at-starts : Stands 40 (run 4 (startsFrom 0 (s .parts))) (bytes s)
+  at-starts = starts-stand s 0 (bytes s) whole
 
   abbrev measures : List ℕ
   measures = laid (points s) (s .z) ++ laid (points s) (s .m)
@@ -109,7 +86,7 @@ module _ (k : Kind) (s : Parts) (o : PartsOf k s) (v : PartsHeld s) (small : Sma
   length-pairs = rw (length-run 8 (coordinates (flatten (s .parts))), length-coordinates (flatten (s .parts))) (omega arith)
 
   at-doubles : Stands (pairsPlace s) (run 8 (coordinates (flatten (s .parts))) ++ measures) (bytes s)
-  at-doubles = rw (doubles-laid s) at (back 40 (4 * parts s) (run 4 starts) (run 8 (partsDoubles s)) (bytes s) length-starts at40)
+  at-doubles = rw (doubles-laid s) at (doubles-stand s 0 (bytes s) whole)
 
   at-measures : Stands (zPlace s) measures (bytes s)
   at-measures = back (pairsPlace s) (16 * points s) (run 8 (coordinates (flatten (s .parts)))) measures (bytes s) length-pairs at-doubles
@@ -126,10 +103,10 @@ module _ (k : Kind) (s : Parts) (o : PartsOf k s) (v : PartsHeld s) (small : Sma
   -- ---- the counts
 
   pub parts-is : leI32 32 (bytes s) ≡ pos (parts s)
-  parts-is = i32-back (parts s) 32 (bytes s) parts-held (front 32 4 (leBytes 4 (parts s)) behind32 (bytes s) (length-leBytes 4 (parts s)) at32)
+  parts-is = i32-back (parts s) 32 (bytes s) parts-held (parts-stand s 0 (bytes s) whole)
 
   pub number-is : leI32 36 (bytes s) ≡ pos (points s)
-  number-is = i32-back (points s) 36 (bytes s) points-held (front 36 4 (leBytes 4 (points s)) behind36 (bytes s) (length-leBytes 4 (points s)) at36)
+  number-is = i32-back (points s) 36 (bytes s) points-held (points-stand s 0 (bytes s) whole)
 
   pub parts-are : parts s ≡ partsIn (bytes s)
   parts-are = ap natAbs (sym parts-is)

@@ -10,7 +10,8 @@ use lib.ListN.{length}
 use borrow.Author.Tests.{lt-ltb, le-ltb, le-leb, lt-leb, eq-eqb, ne-eqb, ltb-true, leb-true, eqb-true}
 use Rattle.format.specs.declared.kinds.Kind.{Kind}
 use Rattle.format.specs.Lengths.{nothing, parts, mayLackM, contentWords, lengthsFor, formulaWords}
-use Rattle.format.proofs.Equations.{words-are, fixed-nothing, each-nothing}
+use Rattle.format.proofs.Equations.{words-are}
+use Rattle.format.proofs.Laid.{nothing-words}
 use Rattle.format.proofs.LengthLaws.{least-words}
 use Rattle.format.proofs.OrderLaws.{both-true}
 use Rattle.rules.specs.Rules.{Taken, bigAt, littleAt, held, wordsOf, partsOf, pointsOf, P9, P10, P11, P13}
@@ -89,7 +90,7 @@ either false b e = inr e
 
 pub null-words : (k : Kind) (l : List ℕ) → P13 (record { kind = k; form = nothing }) l ≡ true → wordsOf l ≡ 2
 null-words k l e =
-    let w : contentWords nothing (k .z) (k .m) 0 0 ≡ 2 = rw (words-are, fixed-nothing, each-nothing) in
+    let w = nothing-words (k .z) (k .m) in
     ⊎-elim (λ q. eqb-true (wordsOf l) _ q ∙ w) (λ q. eqb-true (wordsOf l) _ q ∙ w) (either (eqb (wordsOf l) _) (eqb (wordsOf l) _) e)
 
 -- with parts

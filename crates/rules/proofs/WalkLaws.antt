@@ -1,11 +1,13 @@
 -- The walk over the records, a record at a time, with no fuel.
-use mathlib.Core.Path.{_≡_, refl, ap}
+use mathlib.Core.Path.{_≡_, refl, ap, _∙_}
 use mathlib.Core.List.{List, [], _∷_}
 use Prim.Native.Nat.{ℕ, zero, suc, _+_, _≤_, _<_}
 use native.Mathlib.Nat.{le-refl}
 use native.Mathlib.Omega.{arith}
-use lib.ListN.{length, drop, length-drop}
+use lib.ListN.{length, drop, length-drop, drop-of-length-le}
+use Rattle.format.specs.Said.{gives, fault}
 use Rattle.rules.specs.Rules.{Taken, Counts, partsOf, pointsOf, recordFault, finish, orOn, size, walk, walkFrom}
+use Rattle.rules.proofs.VerdictLaws.{fault-on, finish-gives, over-left}
 
 -- the counts behind one more record
 abbrev pub next : Taken → List ℕ → Counts → Counts
@@ -36,3 +38,21 @@ walk-record t (b ∷ l) x at c h =
     ap (orOn (recordFault t (b ∷ l) x at (c .records + 1)) (c .records + 1))
     (same (length l) (length (drop (size (b ∷ l)) (b ∷ l))) t (drop (size (b ∷ l)) (b ∷ l)) (drop 8 x) (at + size (b ∷ l)) (next t (b ∷ l) c)
     (rw length-drop (omega arith)) (le-refl _))
+
+-- ---- the verdict of a walk from a place on
+
+-- at the end of the .shp
+module _ (t : Taken) (s x : List ℕ) (at ix : ℕ) (c : Counts) (done : length s ≤ at) where
+  pub left-over : ix < length x → walkFrom t (drop at s) (drop ix x) at c ≡ fault 17 (c .records + 1)
+  left-over h = rw (drop-of-length-le s done) (walk-end t (drop ix x) at c ∙ over-left (drop ix x) c (rw length-drop (omega arith)))
+
+  pub all-behind : length x ≤ ix → walkFrom t (drop at s) (drop ix x) at c ≡ gives c
+  all-behind h = rw (drop-of-length-le s done, drop-of-length-le x h) (walk-end t [] at c ∙ finish-gives c)
+
+-- at a record
+module _ (t : Taken) (l x : List ℕ) (at : ℕ) (c : Counts) (h : 0 < length l) where
+  pub broken : (r : ℕ) → (r ≡ 0 → ⊥) → recordFault t l x at (c .records + 1) ≡ r → walkFrom t l x at c ≡ fault r (c .records + 1)
+  broken r n e = walk-record t l x at c h ∙ rw e (fault-on r (c .records + 1) _ (omega (arith, n)))
+
+  pub met-all : recordFault t l x at (c .records + 1) ≡ 0 → walkFrom t l x at c ≡ walkFrom t (drop (size l) l) (drop 8 x) (at + size l) (next t l c)
+  met-all e = walk-record t l x at c h ∙ rw e refl

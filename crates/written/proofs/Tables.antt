@@ -1,8 +1,8 @@
 -- The shape of tables that agree: its doubles have 64 bits, and what a reader has to say of it is what was lent.
-use mathlib.Core.Path.{_≡_, refl, sym, ap, _∙_}
+use mathlib.Core.Path.{_≡_, refl, sym, _∙_}
 use mathlib.Core.Bool.{Bool, true, false, cond}
 use mathlib.Core.List.{List, [], _∷_, map}
-use Prim.Native.Nat.{ℕ, zero, suc, _%_, _^_, _<_}
+use Prim.Native.Nat.{ℕ, zero, suc, _^_, _<_}
 use native.Mathlib.Omega.{arith}
 use lib.Dec.{T}
 use lib.Ieee.{Float, binary64, fits}
@@ -10,7 +10,6 @@ use lib.Ieee.Bits.{ofBits-toBits, toBits-lt}
 use lib.ListN.{length}
 use Rattle.format.specs.Bytes.{Fit}
 use Rattle.format.specs.Shapes.{Covers, OnlyIf}
-use Rattle.format.specs.WellFormed.{coordinates}
 use Rattle.layouts.specs.Tables.{bits, pointsOf, measureOf}
 use Rattle.writer.specs.Adding.{valueOf}
 use Rattle.writer.proofs.ShapeLaws.{empty}
@@ -40,13 +39,6 @@ all-held (x ∷ xs) f = (held x (f .0), all-held xs (f .1))
 length-bits : (xs : List Float) → length (map bits xs) ≡ length xs
 length-bits [] = refl
 length-bits (x ∷ xs) = omega (arith, length-bits xs)
-
--- ---- points
-
-pub coordinates-are : (xy : List Float) → length xy % 2 ≡ 0 → coordinates (pointsOf xy) ≡ map bits xy
-coordinates-are [] e = refl
-coordinates-are (x ∷ []) e = absurd (omega arith)
-coordinates-are (x ∷ y ∷ xy) e = ap (λ (l : List ℕ). bits x ∷ bits y ∷ l) (coordinates-are xy (omega arith))
 
 -- ---- z or m, where the flag gives it
 

@@ -20,7 +20,7 @@ use Rattle.format.proofs.NumberLaws.{length-two}
 use Rattle.multipart.specs.Body.{raised}
 use Rattle.layouts.specs.Steps.{Agreed}
 use Rattle.layouts.specs.Tables.{bits, pointsOf, splitBy, measureOf, boxOf}
-use Rattle.layouts.proofs.TableLaws.{agreed, length-points, split-length, split-whole, split-counts, parts-are, there-measure}
+use Rattle.layouts.proofs.TableLaws.{agreed, length-points, points-are, split-length, split-whole, split-counts, parts-are, there-measure}
 use Rattle.writer.specs.Adding.{Lent, lentKind, lentForm, valueOf, pointShape, lentShape}
 use Rattle.writer.proofs.ShapeLaws.{lent-nothing, lent-point, lent-parts, there-value}
 use Rattle.readback.specs.Held.{Held}
@@ -28,7 +28,7 @@ use Rattle.readback.specs.ReadBack.{value, shapedAs, Roomy, StoresShape}
 use Rattle.readback.proofs.ReadsBack.{reads-back}
 use Rattle.written.specs.Written.{Typed, valueAt, shapedBy, Room, TablesIn, written, ReadsWritten}
 use Rattle.written.proofs.Accepted.{Accepted, accepted}
-use Rattle.written.proofs.Tables.{back, held, all-back, all-held, coordinates-are, only-if, range-is, measure-held, covers, values-are, double-at, points-one, value-held, value-is}
+use Rattle.written.proofs.Tables.{back, held, all-back, all-held, only-if, range-is, measure-held, covers, values-are, double-at, points-one, value-held, value-is}
 
 -- what the theorem needs of the shape that was lent, where its form is this one
 record Fine (t : Lent) (form : Form) (s : Shape) : Type 0 where
@@ -54,7 +54,7 @@ module _ (t : Lent) (a : Accepted t) (d : Typed t) where
     whole = split-whole (t .counts) (pointsOf (t .xy)) points
 
     coordinates : WellFormed.coordinates (pointsOf (t .xy)) ≡ map bits (t .xy)
-    coordinates = coordinates-are (t .xy) (omega (arith, agree .xy-has))
+    coordinates = points-are (t .xy) (omega (arith, agree .xy-has))
 
     abbrev z : Option Measure
     z = measureOf (lentKind t .z) (t .box .zmin) (t .box .zmax) (t .zs)

@@ -10,9 +10,9 @@ use borrow.Author.Tests.{not-true, not-false}
 use Rattle.format.specs.Said.{Said}
 use Rattle.rules.specs.Rules.{Counts, bigAt, partsLong, ringsClosed, finites, none-yet, walkFrom}
 use Rattle.rules.proofs.Turns.{Part, part, parts-go, parts-no, parts-done, rings-go, rings-no, rings-done, finites-go, finites-no, finites-done}
+use Rattle.rules.proofs.WalkLaws.{left-over, all-behind}
 use Rattle.pair.specs.declared.plans.Plan.{Plan}
 use Rattle.pair.specs.Plans.{takenFrom}
-use Rattle.pair.proofs.RecordLaws.{left-over, all-behind}
 use Rattle.pair.proofs.WalkLaws.{Walked, Open, Room, room, Here, Fit, fit, counts-room, no-head, begins, long, closed, front, long-rings, few-rings, no14-first, no14, no15, no16-front, no16, next}
 use Rattle.pair.proofs.walk.Statement.{statement}
 use Rattle.pair.proofs.walk.Tie as tie
