@@ -1,8 +1,8 @@
 #!/usr/bin/env python3
-"""Makes the pairs that the program `pairs` is run on: crates/pairs/data, args and stdout.
+"""Makes the pairs that the program `pairs` is run on: crates/pairs/data, args and stdout; and why, what `plan check --why` has to print.
 
 Each case is a .shp and a .shx with the line that the checker has to print for it, written here by hand from the rules
-P1 to P17. The files are packed field by field after ESRI's paper; nothing of the library is used.
+P1 to P17, and for a no the line that says why. The files are packed field by field after ESRI's paper; nothing of the library is used.
 """
 import os
 import shutil
@@ -98,9 +98,11 @@ def exchange(index):
 def cases():
     two = [parted(3, [SEGMENT]), parted(3, [BEND])]
     # the fault that the library is for
-    yield "exchanged", pair(3, two, entries=exchange), "no rule=P11 record=1"
+    yield "exchanged", pair(3, two, entries=exchange), "no rule=P11 record=1", \
+        "record 1: the index says byte 188, the record stands at byte 100"
     same = [parted(3, [SEGMENT]), parted(3, [SEGMENT]), parted(3, [SEGMENT])]
-    yield "exchanged_same_length", pair(3, same, entries=lambda i: [i[0], i[2], i[1]]), "no rule=P11 record=2"
+    yield "exchanged_same_length", pair(3, same, entries=lambda i: [i[0], i[2], i[1]]), "no rule=P11 record=2", \
+        "record 2: the index says byte 276, the record stands at byte 188"
     # one good pair for each kind, and an empty one
     for kind in (0, 1, 21, 11, 3, 23, 13, 5, 25, 15):
         contents, parts, points = good(kind)
@@ -117,85 +119,141 @@ def cases():
 
     shp, shx = pair(3, [parted(3, [SEGMENT])])
     # record 0
-    yield "P1_cut", (shp[:99], shx), "no rule=P1 record=0"
-    yield "P1_nothing", (b"", b""), "no rule=P1 record=0"
-    yield "P2_cut", (shp, shx[:99]), "no rule=P2 record=0"
-    yield "P3_code", (big(9995) + shp[4:], shx), "no rule=P3 record=0"
-    yield "P3_unused", (shp[:23] + b"\1" + shp[24:], shx), "no rule=P3 record=0"
-    yield "P3_version", (shp[:28] + little(1001) + shp[32:], shx), "no rule=P3 record=0"
+    yield "P1_cut", (shp[:99], shx), "no rule=P1 record=0", \
+        "the .shp has 99 bytes; a header has 100"
+    yield "P1_nothing", (b"", b""), "no rule=P1 record=0", \
+        "the .shp has 0 bytes; a header has 100"
+    yield "P2_cut", (shp, shx[:99]), "no rule=P2 record=0", \
+        "the .shx has 99 bytes; a header has 100"
+    yield "P3_code", (big(9995) + shp[4:], shx), "no rule=P3 record=0", \
+        "the file code of the .shp is 9995; it should be 9994"
+    yield "P3_unused", (shp[:23] + b"\1" + shp[24:], shx), "no rule=P3 record=0", \
+        "byte 23 of the .shp is 1; bytes 4 to 23 should be 0"
+    yield "P3_version", (shp[:28] + little(1001) + shp[32:], shx), "no rule=P3 record=0", \
+        "the version of the .shp is 1001; it should be 1000"
+    names = {8: "Multipoint", 18: "MultipointZ", 28: "MultipointM", 31: "Multipatch"}
     for kind in (2, 8, 18, 28, 31, -1):
-        yield "P4_%s" % str(kind).replace("-", "minus"), pair(kind, []), "no rule=P4 record=0"
-    yield "P5_long", (shp[:24] + big(95) + shp[28:], shx), "no rule=P5 record=0"
-    yield "P5_negative", (shp[:24] + big(-1) + shp[28:], shx), "no rule=P5 record=0"
-    yield "P5_odd", (shp + b"\0", shx), "no rule=P5 record=0"
-    for i, name in enumerate(("xmin", "ymin", "xmax", "ymax", "zmin", "zmax", "mmin", "mmax")):
+        ends = ", a %s, which is not taken" % names[kind] if kind in names else "; there is no such kind"
+        yield "P4_%s" % str(kind).replace("-", "minus"), pair(kind, []), "no rule=P4 record=0", "the header's kind is %d%s" % (kind, ends)
+    yield "P5_long", (shp[:24] + big(95) + shp[28:], shx), "no rule=P5 record=0", \
+        "the header of the .shp says 95 words, which is 190 bytes; the file has 188 bytes"
+    yield "P5_negative", (shp[:24] + big(-1) + shp[28:], shx), "no rule=P5 record=0", \
+        "the header of the .shp says -1 words, which is -2 bytes; the file has 188 bytes"
+    yield "P5_odd", (shp + b"\0", shx), "no rule=P5 record=0", \
+        "the header of the .shp says 94 words, which is 188 bytes; the file has 189 bytes"
+    for i, name in enumerate(("Xmin", "Ymin", "Xmax", "Ymax", "Zmin", "Zmax", "Mmin", "Mmax")):
         box = [0.0] * 8
         box[i] = (NAN, INF, -INF)[i % 3]
-        yield "P6_%s" % name, pair(3, [parted(3, [SEGMENT])], box=tuple(box)), "no rule=P6 record=0"
-    yield "P7_code", (shp, big(9995) + shx[4:]), "no rule=P7 record=0"
-    yield "P7_kind", (shp, shx[:32] + little(5) + shx[36:]), "no rule=P7 record=0"
-    yield "P7_last_byte", (shp, shx[:99] + b"\1" + shx[100:]), "no rule=P7 record=0"
-    yield "P8_length", (shp, shx[:24] + big(55) + shx[28:]), "no rule=P8 record=0"
-    yield "P8_half_entry", (shp, header(56, 3) + shx[100:] + big(94)), "no rule=P8 record=0"
+        yield "P6_%s" % name.lower(), pair(3, [parted(3, [SEGMENT])], box=tuple(box)), "no rule=P6 record=0", \
+            "%s of the header is %s; it should be finite" % (name, ("NaN", "inf", "-inf")[i % 3])
+    yield "P7_code", (shp, big(9995) + shx[4:]), "no rule=P7 record=0", \
+        "byte 3 of the .shx (the file code) is 11; that of the .shp is 10"
+    yield "P7_kind", (shp, shx[:32] + little(5) + shx[36:]), "no rule=P7 record=0", \
+        "byte 32 of the .shx (the kind) is 5; that of the .shp is 3"
+    yield "P7_last_byte", (shp, shx[:99] + b"\1" + shx[100:]), "no rule=P7 record=0", \
+        "byte 99 of the .shx (Mmax) is 1; that of the .shp is 0"
+    yield "P8_length", (shp, shx[:24] + big(55) + shx[28:]), "no rule=P8 record=0", \
+        "the header of the .shx says 55 words, which is 110 bytes; the file has 108 bytes"
+    yield "P8_half_entry", (shp, header(56, 3) + shx[100:] + big(94)), "no rule=P8 record=0", \
+        "12 bytes behind the header of the .shx; an entry has 8 bytes"
     # records
-    yield "P9_number", pair(3, two, numbers=[1, 1]), "no rule=P9 record=2"
-    yield "P9_from_0", pair(3, two, numbers=[0, 1]), "no rule=P9 record=1"
-    yield "P9_stump", pair(3, [parted(3, [SEGMENT])], tail=b"\0" * 6), "no rule=P9 record=2"
-    yield "P10_short", pair(3, [little(3)[:2]]), "no rule=P10 record=1"
-    yield "P10_past", pair(3, two, words=[40, 49]), "no rule=P10 record=2"
-    yield "P10_negative", pair(3, [parted(3, [SEGMENT])], words=[-40]), "no rule=P10 record=1"
-    yield "P11_missing", pair(3, two, entries=lambda i: i[:1]), "no rule=P11 record=2"
-    yield "P11_offset", pair(3, two, entries=lambda i: [i[0], (i[1][0] + 1, i[1][1])]), "no rule=P11 record=2"
-    yield "P11_length", pair(3, two, entries=lambda i: [(i[0][0], i[0][1] + 1), i[1]]), "no rule=P11 record=1"
-    yield "P12_other", pair(3, [parted(3, [SEGMENT]), parted(5, [SQUARE])]), "no rule=P12 record=2"
-    yield "P12_null", pair(3, [parted(3, [SEGMENT]), little(0)]), "no rule=P12 record=2"
-    yield "P13_null_long", pair(0, [little(0, 0)]), "no rule=P13 record=1"
-    yield "P13_point_long", pair(1, [point(1) + doubles(0.0)]), "no rule=P13 record=1"
-    yield "P13_no_counts", pair(3, [little(3)]), "no rule=P13 record=1"
-    yield "P13_p_negative", pair(3, [parted(3, [SEGMENT], p=-1)]), "no rule=P13 record=1"
-    yield "P13_n_negative", pair(3, [parted(3, [SEGMENT], n=-2)]), "no rule=P13 record=1"
-    yield "P13_length", pair(3, [parted(3, [SEGMENT]) + little(0)]), "no rule=P13 record=1"
-    yield "P13_m_of_none", pair(3, [parted(3, [SEGMENT]) + doubles(0.0, 0.0, 0.0, 0.0)]), "no rule=P13 record=1"
-    yield "P14_no_part", pair(3, [parted(3, [])]), "no rule=P14 record=1"
-    yield "P14_start", pair(3, [parted(3, [BEND], starts=[1])]), "no rule=P14 record=1"
-    yield "P14_one_point", pair(3, [parted(3, [SEGMENT, [(1.0, 1.0)]])]), "no rule=P14 record=1"
-    yield "P14_first_one_point", pair(3, [parted(3, [[(1.0, 1.0)], SEGMENT])]), "no rule=P14 record=1"
-    yield "P14_falls", pair(3, [parted(3, [SEGMENT, SEGMENT, SEGMENT], starts=[0, 4, 2])]), "no rule=P14 record=1"
-    yield "P14_negative", pair(3, [parted(3, [SEGMENT, SEGMENT], starts=[0, -2])]), "no rule=P14 record=1"
-    yield "P14_ring_of_3", pair(5, [parted(5, [SQUARE, [(0.0, 0.0), (1.0, 1.0), (0.0, 0.0)]])]), "no rule=P14 record=1"
+    yield "P9_number", pair(3, two, numbers=[1, 1]), "no rule=P9 record=2", \
+        "record 2: its number is 1; it should be 2"
+    yield "P9_from_0", pair(3, two, numbers=[0, 1]), "no rule=P9 record=1", \
+        "record 1: its number is 0; it should be 1"
+    yield "P9_stump", pair(3, [parted(3, [SEGMENT])], tail=b"\0" * 6), "no rule=P9 record=2", \
+        "record 2: 6 bytes left at byte 188; a record's header has 8"
+    yield "P10_short", pair(3, [little(3)[:2]]), "no rule=P10 record=1", \
+        "record 1: its length is 1 word; it should be at least 2"
+    yield "P10_past", pair(3, two, words=[40, 49]), "no rule=P10 record=2", \
+        "record 2: its length is 49 words, which is 98 bytes; the file has 96 bytes left"
+    yield "P10_negative", pair(3, [parted(3, [SEGMENT])], words=[-40]), "no rule=P10 record=1", \
+        "record 1: its length is -40 words; it should be at least 2"
+    yield "P11_missing", pair(3, two, entries=lambda i: i[:1]), "no rule=P11 record=2", \
+        "record 2: the index has 1 entry, and none for this record"
+    yield "P11_offset", pair(3, two, entries=lambda i: [i[0], (i[1][0] + 1, i[1][1])]), "no rule=P11 record=2", \
+        "record 2: the index says byte 190, the record stands at byte 188"
+    yield "P11_length", pair(3, two, entries=lambda i: [(i[0][0], i[0][1] + 1), i[1]]), "no rule=P11 record=1", \
+        "record 1: the index says 41 words, the record's header says 40"
+    yield "P12_other", pair(3, [parted(3, [SEGMENT]), parted(5, [SQUARE])]), "no rule=P12 record=2", \
+        "record 2: its kind is 5, a Polygon; the header's is 3, a Polyline"
+    yield "P12_null", pair(3, [parted(3, [SEGMENT]), little(0)]), "no rule=P12 record=2", \
+        "record 2: its kind is 0, a Null; the header's is 3, a Polyline"
+    yield "P13_null_long", pair(0, [little(0, 0)]), "no rule=P13 record=1", \
+        "record 1: 4 words; a Null has 2"
+    yield "P13_point_long", pair(1, [point(1) + doubles(0.0)]), "no rule=P13 record=1", \
+        "record 1: 14 words; a Point has 10"
+    yield "P13_no_counts", pair(3, [little(3)]), "no rule=P13 record=1", \
+        "record 1: 2 words; a Polyline has at least 22"
+    yield "P13_p_negative", pair(3, [parted(3, [SEGMENT], p=-1)]), "no rule=P13 record=1", \
+        "record 1: its number of parts is -1; it should not be below 0"
+    yield "P13_n_negative", pair(3, [parted(3, [SEGMENT], n=-2)]), "no rule=P13 record=1", \
+        "record 1: its number of points is -2; it should not be below 0"
+    yield "P13_length", pair(3, [parted(3, [SEGMENT]) + little(0)]), "no rule=P13 record=1", \
+        "record 1: 42 words; a Polyline of 1 part and 2 points has 40"
+    yield "P13_m_of_none", pair(3, [parted(3, [SEGMENT]) + doubles(0.0, 0.0, 0.0, 0.0)]), "no rule=P13 record=1", \
+        "record 1: 56 words; a Polyline of 1 part and 2 points has 40"
+    yield "P14_no_part", pair(3, [parted(3, [])]), "no rule=P14 record=1", \
+        "record 1: 0 parts; a Polyline has at least 1"
+    yield "P14_start", pair(3, [parted(3, [BEND], starts=[1])]), "no rule=P14 record=1", \
+        "record 1: its first part starts at point 1; it should start at point 0"
+    yield "P14_one_point", pair(3, [parted(3, [SEGMENT, [(1.0, 1.0)]])]), "no rule=P14 record=1", \
+        "record 1: part 2 has 1 point, from 2 to 3; a Polyline's has at least 2"
+    yield "P14_first_one_point", pair(3, [parted(3, [[(1.0, 1.0)], SEGMENT])]), "no rule=P14 record=1", \
+        "record 1: part 1 has 1 point, from 0 to 1; a Polyline's has at least 2"
+    yield "P14_falls", pair(3, [parted(3, [SEGMENT, SEGMENT, SEGMENT], starts=[0, 4, 2])]), "no rule=P14 record=1", \
+        "record 1: part 2 has -2 points, from 4 to 2; a Polyline's has at least 2"
+    yield "P14_negative", pair(3, [parted(3, [SEGMENT, SEGMENT], starts=[0, -2])]), "no rule=P14 record=1", \
+        "record 1: part 1 has -2 points, from 0 to -2; a Polyline's has at least 2"
+    yield "P14_ring_of_3", pair(5, [parted(5, [SQUARE, [(0.0, 0.0), (1.0, 1.0), (0.0, 0.0)]])]), "no rule=P14 record=1", \
+        "record 1: part 2 has 3 points, from 5 to 8; a Polygon's has at least 4"
     open_ring = [(0.0, 0.0), (0.0, 1.0), (1.0, 1.0), (1.0, 0.0)]
-    yield "P15_open", pair(5, [parted(5, [open_ring])]), "no rule=P15 record=1"
-    yield "P15_last_open", pair(15, [parted(15, [SQUARE]), parted(15, [SQUARE, open_ring])]), "no rule=P15 record=2"
-    yield "P15_y_only", pair(5, [parted(5, [[(0.0, 0.0), (0.0, 1.0), (1.0, 1.0), (0.0, 2.0)]])]), "no rule=P15 record=1"
+    yield "P15_open", pair(5, [parted(5, [open_ring])]), "no rule=P15 record=1", \
+        "record 1: ring 1 begins at (0, 0) and ends at (1, 0); it should end where it begins"
+    yield "P15_last_open", pair(15, [parted(15, [SQUARE]), parted(15, [SQUARE, open_ring])]), "no rule=P15 record=2", \
+        "record 2: ring 2 begins at (0, 0) and ends at (1, 0); it should end where it begins"
+    yield "P15_y_only", pair(5, [parted(5, [[(0.0, 0.0), (0.0, 1.0), (1.0, 1.0), (0.0, 2.0)]])]), "no rule=P15 record=1", \
+        "record 1: ring 1 begins at (0, 0) and ends at (0, 2); it should end where it begins"
     nan_ring = [(NAN, 0.0), (0.0, 1.0), (1.0, 1.0), (NAN, 0.0)]
-    yield "P15_nan", pair(5, [parted(5, [nan_ring])]), "no rule=P15 record=1"
-    yield "P16_point", pair(1, [point(1), point(1, y=INF)]), "no rule=P16 record=2"
-    yield "P16_point_m", pair(21, [point(21, m=NAN)]), "no rule=P16 record=1"
-    yield "P16_box", pair(3, [parted(3, [SEGMENT], box=(0.0, 0.0, NAN, 0.0))]), "no rule=P16 record=1"
-    yield "P16_x", pair(3, [parted(3, [[(0.0, 0.0), (NAN, 1.0)]])]), "no rule=P16 record=1"
-    yield "P16_z", pair(13, [parted(13, [SEGMENT], z=-INF)]), "no rule=P16 record=1"
-    yield "P16_m", pair(23, [parted(23, [SEGMENT], m=NAN)]), "no rule=P16 record=1"
+    yield "P15_nan", pair(5, [parted(5, [nan_ring])]), "no rule=P15 record=1", \
+        "record 1: ring 1 begins at (NaN, 0) and ends at (NaN, 0); NaN equals nothing"
+    yield "P16_point", pair(1, [point(1), point(1, y=INF)]), "no rule=P16 record=2", \
+        "record 2: y of point 1 is inf; it should be finite"
+    yield "P16_point_m", pair(21, [point(21, m=NAN)]), "no rule=P16 record=1", \
+        "record 1: m of point 1 is NaN; it should be finite"
+    yield "P16_box", pair(3, [parted(3, [SEGMENT], box=(0.0, 0.0, NAN, 0.0))]), "no rule=P16 record=1", \
+        "record 1: Xmax of its box is NaN; it should be finite"
+    yield "P16_x", pair(3, [parted(3, [[(0.0, 0.0), (NAN, 1.0)]])]), "no rule=P16 record=1", \
+        "record 1: x of point 2 is NaN; it should be finite"
+    yield "P16_z", pair(13, [parted(13, [SEGMENT], z=-INF)]), "no rule=P16 record=1", \
+        "record 1: z of point 1 is -inf; it should be finite"
+    yield "P16_m", pair(23, [parted(23, [SEGMENT], m=NAN)]), "no rule=P16 record=1", \
+        "record 1: m of point 1 is NaN; it should be finite"
     inf_ring = [(INF, 0.0), (0.0, 1.0), (1.0, 1.0), (INF, 0.0)]
-    yield "P16_ring", pair(5, [parted(5, [inf_ring])]), "no rule=P16 record=1"
-    yield "P17_left", pair(3, two, entries=lambda i: i + [(200, 40)]), "no rule=P17 record=3"
-    yield "P17_of_none", pair(3, [], entries=lambda i: [(50, 40)]), "no rule=P17 record=1"
+    yield "P16_ring", pair(5, [parted(5, [inf_ring])]), "no rule=P16 record=1", \
+        "record 1: x of point 1 is inf; it should be finite"
+    yield "P17_left", pair(3, two, entries=lambda i: i + [(200, 40)]), "no rule=P17 record=3", \
+        "record 3: the index has 3 entries, the .shp has 2 records"
+    yield "P17_of_none", pair(3, [], entries=lambda i: [(50, 40)]), "no rule=P17 record=1", \
+        "record 1: the index has 1 entry, the .shp has 0 records"
 
 
 def main():
     root = os.path.join(os.path.dirname(os.path.dirname(os.path.abspath(__file__))), "crates", "pairs")
     shutil.rmtree(os.path.join(root, "data"), ignore_errors=True)
     os.makedirs(os.path.join(root, "data"))
-    args, lines = [], []
-    for name, (shp, shx), line in cases():
+    args, lines, reasons = [], [], []
+    for name, (shp, shx), *said in cases():
         for ending, data in ((".shp", shp), (".shx", shx)):
             with open(os.path.join(root, "data", name + ending), "wb") as f:
                 f.write(data)
         args += [name + ".shp", name + ".shx"]
-        lines.append("%s: %s" % (name + ".shp", line))
-    with open(os.path.join(root, "args"), "w") as f:
-        f.write("".join(a + "\n" for a in args))
-    with open(os.path.join(root, "stdout"), "w") as f:
-        f.write("".join(l + "\n" for l in lines))
+        lines.append("%s.shp: %s" % (name, said[0]))
+        reasons += ["%s.shp: %s" % (name, line) for line in said]
+        assert len(said) == (2 if said[0].startswith("no ") else 1), name
+    for name, content in (("args", args), ("stdout", lines), ("why", reasons)):
+        with open(os.path.join(root, name), "w") as f:
+            f.write("".join(line + "\n" for line in content))
     print("%d pairs" % len(lines))
 
 

@@ -1,6 +1,7 @@
 //! The refusals: one enum, with each refusal's number and values.
 
 use crate::ffi::Refusal;
+use crate::reason::Reason;
 use std::fmt;
 
 /// Why a call was refused. Offsets are in bytes, from the start of the slice that was handed over.
@@ -37,7 +38,8 @@ pub enum Error {
     },
     /// 7: a count over 2,147,483,647, or a file over that many 16-bit words.
     Long,
-    /// 8: the pair checker's no.
+    /// 8: the pair checker's no. The repository's docs/RULES.md says each rule in plain words and
+    /// what usually breaks it; [`Error::why`] says what breaks it in these files.
     Fault {
         /// The first rule that is broken: 11 for P11.
         rule: u32,
@@ -64,6 +66,16 @@ impl Error {
             Error::Fault { .. } => 8,
             Error::NotTaken(_) => 9,
             Error::Tables => 10,
+        }
+    }
+
+    /// Of a [`Fault`](Error::Fault): what breaks the rule in these two files, which are the ones that
+    /// were checked. None of another refusal, and where the files are others, which do not break
+    /// that rule there.
+    pub fn why(&self, shp: &[u8], shx: &[u8]) -> Option<Reason> {
+        match *self {
+            Error::Fault { rule, record } => Reason::find(rule, record, shp, shx),
+            _ => None,
         }
     }
 }

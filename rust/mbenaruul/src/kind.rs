@@ -21,11 +21,46 @@ pub const POLYLINE_M: i32 = 23;
 /// Closed runs of points with, unless a file lacks it, m.
 pub const POLYGON_M: i32 = 25;
 
+/// The name of a kind by ESRI's paper, of those too that are not taken; none, where there is no such
+/// kind.
+pub fn name(kind: i32) -> Option<&'static str> {
+    Some(match kind {
+        NULL => "Null",
+        POINT => "Point",
+        POLYLINE => "Polyline",
+        POLYGON => "Polygon",
+        8 => "Multipoint",
+        POINT_Z => "PointZ",
+        POLYLINE_Z => "PolylineZ",
+        POLYGON_Z => "PolygonZ",
+        18 => "MultipointZ",
+        POINT_M => "PointM",
+        POLYLINE_M => "PolylineM",
+        POLYGON_M => "PolygonM",
+        28 => "MultipointM",
+        31 => "Multipatch",
+        _ => return None,
+    })
+}
+
+/// Of the kinds that have a name: whether it is one of the constants above.
+pub(crate) fn is_taken(kind: i32) -> bool {
+    name(kind).is_some() && ![8, 18, 28, 31].contains(&kind)
+}
+
+pub(crate) fn has_parts(kind: i32) -> bool {
+    matches!(kind, POLYLINE | POLYLINE_M | POLYLINE_Z) || has_rings(kind)
+}
+
+pub(crate) fn has_rings(kind: i32) -> bool {
+    matches!(kind, POLYGON | POLYGON_M | POLYGON_Z)
+}
+
 pub(crate) fn has_z(kind: i32) -> bool {
     matches!(kind, POINT_Z | POLYLINE_Z | POLYGON_Z)
 }
 
-/// Of the point kinds only: whether a shape with parts has m is told by its size.
-pub(crate) fn point_has_m(kind: i32) -> bool {
-    matches!(kind, POINT_M | POINT_Z)
+/// A point of such a kind has m; whether a shape with parts has it is told by its size.
+pub(crate) fn has_m(kind: i32) -> bool {
+    matches!(kind, POINT_M | POLYLINE_M | POLYGON_M) || has_z(kind)
 }

@@ -7,6 +7,7 @@
 //! | to | call |
 //! |---|---|
 //! | ask whether two files are a pair | [`check_pair`], or [`Verdict::of`] for the line to print |
+//! | say why they are not | [`Error::why`], [`Verdict::why`]: a [`Reason`], with its numbers and a text |
 //! | read the records of a pair | [`Plan::check`], then [`Plan::record`] or [`Plan::records`] |
 //! | write a pair | [`Writer`] |
 //! | read a header, an index entry or a record by itself | [`read_header`], [`read_record_header`], [`read_index_entry`], [`read_record`] |
@@ -55,6 +56,7 @@ mod ffi;
 mod header;
 pub mod kind;
 mod pair;
+mod reason;
 mod record;
 mod rings;
 mod writer;
@@ -65,6 +67,7 @@ pub use header::{
     RecordHeader, Words,
 };
 pub use pair::{check_pair, Plan, Totals, Verdict};
+pub use reason::{Cause, Double, File, Reason};
 pub use record::{read_record, BBox, Range, Record, Shape};
 pub use rings::{
     close_points_if_not_already, is_part_closed, ring_type_from_points_ordering, RingType,

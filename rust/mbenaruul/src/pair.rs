@@ -3,6 +3,7 @@
 use crate::error::Error;
 use crate::ffi;
 use crate::header::{read_header, read_index_entry, Header};
+use crate::reason::Reason;
 use crate::record::{read_record, Record};
 use std::fmt;
 
@@ -59,6 +60,15 @@ impl Verdict {
             Ok(totals) => Verdict::Yes(totals),
             Err(Error::Fault { rule, record }) => Verdict::No { rule, record },
             Err(other) => panic!("the pair checker has one refusal, and gave: {other}"),
+        }
+    }
+
+    /// Of a no: what breaks the rule in these two files, which are the ones that were checked. None
+    /// of a yes, and where the files are others, which do not break that rule there.
+    pub fn why(&self, shp: &[u8], shx: &[u8]) -> Option<Reason> {
+        match *self {
+            Verdict::Yes(_) => None,
+            Verdict::No { rule, record } => Reason::find(rule, record, shp, shx),
         }
     }
 }

@@ -169,7 +169,7 @@ fn point_of(kind: i32, point: ffi::Point) -> Record {
         x: point.x,
         y: point.y,
         z: kind::has_z(kind).then_some(point.z),
-        m: kind::point_has_m(kind).then_some(point.m),
+        m: kind::has_m(kind).then_some(point.m),
     }
 }
 

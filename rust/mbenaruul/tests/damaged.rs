@@ -3,47 +3,9 @@
 
 mod common;
 
-use common::{is_divided, read_all, record, totals, written, Random, KINDS};
+use common::{damage, is_divided, read_all, record, totals, written, Random, KINDS};
 use mbenaruul::{read_record, Bytes, Error, Plan, Record};
 use std::collections::BTreeSet;
-
-/// Numbers that a field has, or must not have.
-const NUMBERS: [i32; 14] = [
-    0,
-    1,
-    2,
-    3,
-    4,
-    5,
-    15,
-    40,
-    50,
-    1000,
-    -1,
-    -2,
-    i32::MIN,
-    i32::MAX,
-];
-
-fn overwrite(bytes: &mut [u8], at: usize, with: &[u8]) {
-    let end = bytes.len().min(at + with.len());
-    bytes[at..end].copy_from_slice(&with[..end - at]);
-}
-
-fn damage(bytes: &mut Vec<u8>, random: &mut Random) {
-    let at = random.below(bytes.len());
-    let number = NUMBERS[random.below(NUMBERS.len())];
-    match random.below(8) {
-        0 => bytes[at] ^= 1 << random.below(8),
-        1 => overwrite(bytes, at / 4 * 4, &number.to_be_bytes()),
-        2 => overwrite(bytes, at / 4 * 4, &number.to_le_bytes()),
-        3 => overwrite(bytes, at / 4 * 4, &f64::NAN.to_le_bytes()),
-        4 => bytes.truncate(at),
-        5 => bytes.insert(at, number as u8),
-        6 => bytes.extend([0; 8]),
-        _ => bytes.swap(at, at / 2),
-    }
-}
 
 #[test]
 fn a_damaged_pair_is_answered_and_a_yes_is_readable() {

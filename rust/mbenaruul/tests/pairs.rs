@@ -3,39 +3,8 @@
 
 mod common;
 
+use common::{bytes, pairs};
 use mbenaruul::{BBox, Error, Plan, Range, Record, Shape, Verdict, Writer};
-use std::fs;
-use std::path::PathBuf;
-
-fn folder() -> PathBuf {
-    PathBuf::from(env!("CARGO_MANIFEST_DIR")).join("../../crates/pairs")
-}
-
-fn bytes(name: &str) -> Vec<u8> {
-    fs::read(folder().join("data").join(name)).expect(name)
-}
-
-fn lines(name: &str) -> Vec<String> {
-    let text = fs::read_to_string(folder().join(name)).expect(name);
-    text.lines().map(str::to_string).collect()
-}
-
-/// The name of each .shp, its bytes and those of its .shx, and the line for them.
-fn pairs() -> Vec<(String, Vec<u8>, Vec<u8>, String)> {
-    let (names, said) = (lines("args"), lines("stdout"));
-    assert_eq!(names.len(), 2 * said.len());
-    let pair = |(names, said): (&[String], &String)| {
-        let (name, line) = said.split_once(": ").expect("a name and a line");
-        assert_eq!(name, names[0]);
-        (
-            name.to_string(),
-            bytes(&names[0]),
-            bytes(&names[1]),
-            line.to_string(),
-        )
-    };
-    names.chunks(2).zip(&said).map(pair).collect()
-}
 
 #[test]
 fn each_pair_gets_its_line() {

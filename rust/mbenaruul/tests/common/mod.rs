@@ -1,10 +1,12 @@
 //! What several tests share: the kinds, numbers that look random and are the same in each run,
-//! records of every kind, and files field by field.
+//! records of every kind, damage, files field by field, and the pairs of crates/pairs.
 
 // Each test file is a program of its own and uses a part of this.
 #![allow(dead_code)]
 
 use mbenaruul::{BBox, Plan, Range, Record, Shape, Totals, Writer};
+use std::fs;
+use std::path::PathBuf;
 
 /// The nine kinds that can be written.
 pub const KINDS: [i32; 9] = [1, 21, 11, 3, 23, 13, 5, 25, 15];
@@ -198,4 +200,75 @@ pub fn exchange(shx: &mut [u8], one: usize, other: usize) {
     for i in 0..8 {
         shx.swap(100 + 8 * (one - 1) + i, 100 + 8 * (other - 1) + i);
     }
+}
+
+/// Numbers that a field has, or must not have.
+const NUMBERS: [i32; 14] = [
+    0,
+    1,
+    2,
+    3,
+    4,
+    5,
+    15,
+    40,
+    50,
+    1000,
+    -1,
+    -2,
+    i32::MIN,
+    i32::MAX,
+];
+
+fn overwrite(bytes: &mut [u8], at: usize, with: &[u8]) {
+    let end = bytes.len().min(at + with.len());
+    bytes[at..end].copy_from_slice(&with[..end - at]);
+}
+
+/// Damages a place of the bytes, of which there are some.
+pub fn damage(bytes: &mut Vec<u8>, random: &mut Random) {
+    let at = random.below(bytes.len());
+    let number = NUMBERS[random.below(NUMBERS.len())];
+    match random.below(8) {
+        0 => bytes[at] ^= 1 << random.below(8),
+        1 => overwrite(bytes, at / 4 * 4, &number.to_be_bytes()),
+        2 => overwrite(bytes, at / 4 * 4, &number.to_le_bytes()),
+        3 => overwrite(bytes, at / 4 * 4, &f64::NAN.to_le_bytes()),
+        4 => bytes.truncate(at),
+        5 => bytes.insert(at, number as u8),
+        6 => bytes.extend([0; 8]),
+        _ => bytes.swap(at, at / 2),
+    }
+}
+
+fn folder() -> PathBuf {
+    PathBuf::from(env!("CARGO_MANIFEST_DIR")).join("../../crates/pairs")
+}
+
+/// The bytes of a file of crates/pairs/data.
+pub fn bytes(name: &str) -> Vec<u8> {
+    fs::read(folder().join("data").join(name)).expect(name)
+}
+
+/// The lines of a file of crates/pairs.
+pub fn lines(name: &str) -> Vec<String> {
+    let text = fs::read_to_string(folder().join(name)).expect(name);
+    text.lines().map(str::to_string).collect()
+}
+
+/// The name of each .shp, its bytes and those of its .shx, and the line for them.
+pub fn pairs() -> Vec<(String, Vec<u8>, Vec<u8>, String)> {
+    let (names, said) = (lines("args"), lines("stdout"));
+    assert_eq!(names.len(), 2 * said.len());
+    let pair = |(names, said): (&[String], &String)| {
+        let (name, line) = said.split_once(": ").expect("a name and a line");
+        assert_eq!(name, names[0]);
+        (
+            name.to_string(),
+            bytes(&names[0]),
+            bytes(&names[1]),
+            line.to_string(),
+        )
+    };
+    names.chunks(2).zip(&said).map(pair).collect()
 }

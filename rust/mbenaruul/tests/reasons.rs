@@ -1,0 +1,289 @@
+//! Why a pair is refused: the text for every pair of crates/pairs as a whole, the fields, and that a reason
+//! is found for whatever is refused, and for nothing else.
+
+mod common;
+
+use common::{content, exchange, pairs, record, written, Random, KINDS};
+use mbenaruul::{check_pair, kind, BBoxZ, Cause, Error, File, Reason, Tables, Verdict, Writer};
+
+/// The pair's no and its reason.
+fn refused(shp: &[u8], shx: &[u8]) -> (Error, Reason) {
+    let fault = check_pair(shp, shx).expect_err("a pair that is refused");
+    let why = fault.why(shp, shx);
+    (
+        fault,
+        why.unwrap_or_else(|| panic!("no reason for: {fault}")),
+    )
+}
+
+#[test]
+fn each_refused_pair_has_its_text() {
+    let said = common::lines("why");
+    let mut expected = said.iter().map(String::as_str);
+    let mut rules = [0; 18];
+    for (name, shp, shx, line) in pairs() {
+        assert_eq!(expected.next(), Some(&*format!("{name}: {line}")));
+        let verdict = Verdict::of(&shp, &shx);
+        match verdict {
+            Verdict::Yes(_) => assert_eq!(verdict.why(&shp, &shx), None, "{name}"),
+            Verdict::No { rule, record } => {
+                let (fault, reason) = refused(&shp, &shx);
+                assert_eq!(expected.next(), Some(&*format!("{name}: {reason}")));
+                assert_eq!((reason.rule, reason.record), (rule, record), "{name}");
+                let again = verdict.why(&shp, &shx).map(|reason| reason.to_string());
+                assert_eq!(again, Some(reason.to_string()), "{fault}");
+                rules[rule as usize] += 1;
+            }
+        }
+    }
+    assert_eq!(expected.next(), None);
+    assert!(rules[1..].iter().all(|&pairs| pairs > 0), "{rules:?}");
+}
+
+#[test]
+fn two_entries_exchanged() {
+    let mut writer = Writer::new();
+    for k in 0..31u32 {
+        let xy = vec![f64::from(k); 2 * (k as usize + 2)];
+        writer
+            .add(&Tables {
+                kind: kind::POLYLINE,
+                counts: &[k + 2],
+                xy: &xy,
+                ..Tables::default()
+            })
+            .unwrap();
+    }
+    let (shp, mut shx) = writer.finish().unwrap();
+    exchange(&mut shx, 12, 31);
+    let (fault, reason) = refused(&shp, &shx);
+    assert_eq!(
+        fault,
+        Error::Fault {
+            rule: 11,
+            record: 12
+        }
+    );
+    // a record of n points has 8 + 48 + 16n bytes
+    let at = |record: usize| 100 + (2..record + 1).map(|n| 56 + 16 * n).sum::<usize>();
+    assert_eq!((reason.file, reason.offset), (File::Shx, 100 + 8 * 11));
+    let cause = Cause::EntryOffset {
+        found: at(31) as i64,
+        wanted: at(12),
+    };
+    assert_eq!(reason.cause, cause);
+    assert_eq!(
+        reason.to_string(),
+        format!(
+            "record 12: the index says byte {}, the record stands at byte {}",
+            at(31),
+            at(12)
+        )
+    );
+}
+
+/// One record with this content, in a pair that is right for the rest.
+fn one(kind: i32, content: &[u8]) -> (Vec<u8>, Vec<u8>) {
+    let words = content.len() as i32 / 2;
+    let mut shp = common::header(9994, 54 + words, kind);
+    shp.extend([1i32, words].iter().flat_map(|n| n.to_be_bytes()));
+    shp.extend(content);
+    let mut shx = common::header(9994, 54, kind);
+    shx.extend([50i32, words].iter().flat_map(|n| n.to_be_bytes()));
+    (shp, shx)
+}
+
+#[test]
+fn a_point_z_without_m() {
+    let mut content = kind::POINT_Z.to_le_bytes().to_vec();
+    content.extend([1.0f64, 2.0, 3.0].iter().flat_map(|d| d.to_le_bytes()));
+    let (shp, shx) = one(kind::POINT_Z, &content);
+    let (_, reason) = refused(&shp, &shx);
+    assert_eq!(reason.to_string(), "record 1: 14 words; a PointZ has 18");
+    assert_eq!((reason.file, reason.offset), (File::Shp, 104));
+    let cause = Cause::FixedLength {
+        kind: kind::POINT_Z,
+        words: 14,
+        wanted: 18,
+    };
+    assert_eq!(reason.cause, cause);
+}
+
+#[test]
+fn lengths_without_m_and_with_it() {
+    let texts = [
+        (
+            kind::POLYLINE_M,
+            "42 words; a PolylineM of 1 part and 2 points has 40, or 56 with m",
+        ),
+        (
+            kind::POLYGON_Z,
+            "42 words; a PolygonZ of 1 part and 2 points has 56, or 72 with m",
+        ),
+    ];
+    for (kind, text) in texts {
+        let (shp, shx) = one(kind, &content(kind, 1, 2, &[0, 0], &[0.0; 4]));
+        assert_eq!(
+            refused(&shp, &shx).1.to_string(),
+            format!("record 1: {text}")
+        );
+    }
+    // behind m's range there is a place for m of each point, and behind z's for z
+    let mut doubles = [0.0; 12];
+    doubles[11] = f64::NAN;
+    let (shp, shx) = one(
+        kind::POLYLINE_Z,
+        &content(kind::POLYLINE_Z, 1, 2, &[0], &doubles),
+    );
+    assert_eq!(
+        refused(&shp, &shx).1.to_string(),
+        "record 1: m of point 2 is NaN; it should be finite"
+    );
+    let z_alone = [0.0, 0.0, 1.0, 1.0, f64::INFINITY, 0.0, 5.0, 5.0];
+    let (shp, shx) = one(
+        kind::POLYLINE_Z,
+        &content(kind::POLYLINE_Z, 1, 2, &[0], &z_alone),
+    );
+    assert_eq!(
+        refused(&shp, &shx).1.to_string(),
+        "record 1: Zmin of its range is inf; it should be finite"
+    );
+}
+
+#[test]
+fn coordinates_are_told_apart() {
+    let open = |x: f64| {
+        let doubles = [1e300, 0.0, 0.0, 1.0, 1.0, 1.0, x, 0.0];
+        let (shp, shx) = one(kind::POLYGON, &content(kind::POLYGON, 1, 4, &[0], &doubles));
+        refused(&shp, &shx).1.to_string()
+    };
+    let text = |x: &str| {
+        format!("record 1: ring 1 begins at (1e300, 0) and ends at ({x}, 0); it should end where it begins")
+    };
+    assert_eq!(open(0.1), text("0.1"));
+    assert_eq!(
+        open(f64::from_bits(0.1f64.to_bits() + 1)),
+        text("0.10000000000000002")
+    );
+    assert_eq!(open(5e-324), text("5e-324"));
+}
+
+#[test]
+fn whatever_is_refused_has_a_reason_and_its_number_mends_it() {
+    let (mut refusals, mut mended) = (0, 0);
+    for kind in KINDS {
+        let mut random = Random::new(7 + kind as u64);
+        for _ in 0..1500 {
+            let records: Vec<_> = (0..3).map(|_| record(kind, &mut random)).collect();
+            let (mut shp, mut shx) = written(&records);
+            let either = if random.below(3) == 0 {
+                &mut shx
+            } else {
+                &mut shp
+            };
+            common::damage(either, &mut random);
+            if check_pair(&shp, &shx).is_ok() {
+                continue;
+            }
+            let (fault, reason) = refused(&shp, &shx);
+            let line = reason.to_string();
+            assert!(!line.contains('\n') && line.is_ascii(), "{line}");
+            assert_eq!(line.starts_with("record "), reason.record > 0, "{line}");
+            refusals += 1;
+            if mend(&reason, &mut shp, &mut shx) {
+                let same = check_pair(&shp, &shx) == Err(fault);
+                assert!(!same || refused(&shp, &shx).1 != reason, "{line}");
+                mended += 1;
+            }
+        }
+    }
+    assert!(refusals > 5000 && mended > 1000, "{refusals} {mended}");
+}
+
+/// Puts the number that should stand in a field there, where it is one number.
+fn mend(reason: &Reason, shp: &mut [u8], shx: &mut [u8]) -> bool {
+    let big = |n: usize| (n as i32).to_be_bytes();
+    let number = match reason.cause {
+        Cause::FileCode { .. } => big(9994),
+        Cause::Version { .. } => 1000i32.to_le_bytes(),
+        Cause::FileLength { bytes, .. } => big(bytes / 2),
+        Cause::RecordNumber { .. } => big(reason.record),
+        Cause::EntryOffset { wanted, .. } => big(wanted / 2),
+        Cause::EntryLength { wanted, .. } => big(wanted as usize),
+        Cause::RecordKind { wanted, .. } => wanted.to_le_bytes(),
+        _ => return false,
+    };
+    let file = match reason.file {
+        File::Shp => shp,
+        File::Shx => shx,
+    };
+    // an odd number of bytes has no length in words that is right
+    if matches!(reason.cause, Cause::FileLength { bytes, .. } if bytes % 2 == 1) {
+        return false;
+    }
+    file[reason.offset..reason.offset + 4].copy_from_slice(&number);
+    true
+}
+
+#[test]
+fn a_fault_of_other_files_has_no_reason() {
+    let good = written(&[
+        record(5, &mut Random::new(1)),
+        record(5, &mut Random::new(2)),
+    ]);
+    let nothing = (Vec::new(), Vec::new());
+    let header = (common::header(9994, 50, 5), common::header(9994, 50, 5));
+    for rule in (0..=20).chain([u32::MAX]) {
+        for record in (0..=5).chain([1 << 31, 1 << 62, usize::MAX]) {
+            let fault = Error::Fault { rule, record };
+            assert_eq!(fault.why(&good.0, &good.1), None, "{fault}");
+            for (shp, shx) in [&nothing, &header, &good] {
+                for (a, b) in [(shp, shx), (shx, shp), (&good.0, shx), (shp, &good.1)] {
+                    let _ = fault.why(a, b).map(|reason| reason.to_string());
+                }
+            }
+        }
+    }
+    assert_eq!(Error::Tables.why(&good.0, &good.1), None);
+    assert_eq!(Error::Tables.why(&[], &[]), None);
+}
+
+#[test]
+fn a_reason_is_found_in_bytes_of_any_kind() {
+    let mut random = Random::new(3);
+    for _ in 0..20_000 {
+        let kind = KINDS[random.below(KINDS.len())];
+        let (mut shp, shx) = written(&[record(kind, &mut random)]);
+        for _ in 0..1 + random.below(4) {
+            common::damage(&mut shp, &mut random);
+            if shp.is_empty() {
+                break;
+            }
+        }
+        let fault = Error::Fault {
+            rule: 1 + random.below(17) as u32,
+            record: random.below(3),
+        };
+        let _ = fault.why(&shp, &shx).map(|reason| reason.to_string());
+        let _ = fault.why(&shx, &shp).map(|reason| reason.to_string());
+    }
+}
+
+#[test]
+fn boxes_are_not_judged() {
+    let mut writer = Writer::new();
+    writer
+        .add(&Tables {
+            kind: kind::POLYLINE,
+            bbox: BBoxZ {
+                xmin: 7.0,
+                ..BBoxZ::default()
+            },
+            counts: &[2],
+            xy: &[0.0, 0.0, 1.0, 1.0],
+            ..Tables::default()
+        })
+        .unwrap();
+    let (shp, shx) = writer.finish().unwrap();
+    assert!(check_pair(&shp, &shx).is_ok());
+}
