@@ -4,7 +4,7 @@
  * total: any numbers and any bytes may be handed to it. A refusal writes to no buffer and leaves the writer's state as it was. A buffer
  * that a call may write to must not overlap anything else that is handed to that call.
  *
- * What each refusal's number means, and its values (document 01, "What comes back"):
+ * What each refusal's number means, and its values (docs/DOCUMENT-01.md, "What comes back"):
  *    0  not refused
  *    1  short: the bytes end inside a field         first: the field's offset
  *    2  code: the file code is not 9994             first: the code
@@ -13,7 +13,8 @@
  *    5  mismatch: another kind than the one wanted  first: the wanted code, second: the found one
  *    6  room: a lent store or output is too small   first and second: the parts and points needed; or first: the bytes
  *    7  long: a count over 2,147,483,647, or a file over that many words
- *    8  fault: the pair checker's no                first: the rule (11 for P11), second: the record's number
+ *    8  fault: the pair checker's no                first: the rule (11 for P11), second: the record's number, 0 for the headers;
+ *       docs/RULES.md says each rule in plain words and what usually breaks it
  *    9  not taken: a kind that is not read or written   first: the kind's code
  *   10  tables: lent tables disagree in length
  * Values that a refusal does not have are 0. A code that is below 0 stands as its 32 bits: (int32_t)first.

@@ -1,6 +1,7 @@
 # Sourced by every script, in its second line: where the repository is, and that nothing around it changes what a script does. Sets
 #   root      the repository, also where a script was called through a link
-# and gives `run_alone`, and for what is built `proved_sum`, `sum_of`, `is_made`, `note_made`, `alone_in_target`, `build_program` and `rustc_for_x86_64`.
+# and gives `run_alone` and `run_x86_64`; for what is built `proved_sum`, `sum_of`, `is_made`, `note_made`, `alone_in_target`, `build_program`; and
+# `rustc_for_x86_64`.
 set -euo pipefail
 root=$(command -p readlink -f -- "${BASH_SOURCE[0]}")
 root=${root%/tools/common.sh}
@@ -22,6 +23,18 @@ unset CDPATH BASH_ENV ENV
 run_alone() {
     unset LD_PRELOAD LD_LIBRARY_PATH LD_AUDIT "${!QEMU_@}"
     exec "$@"
+}
+
+# run_x86_64 PROGRAM ARGS..: becomes this static program for x86-64; on another processor an emulator runs it.
+run_x86_64() {
+    if [ "$(uname -m)" != x86_64 ]; then
+        command -v qemu-x86_64 >/dev/null || {
+            echo "${1##*/}: qemu-x86_64 is missing (Debian: qemu-user)" >&2
+            exit 2
+        }
+        set -- qemu-x86_64 "$@"
+    fi
+    run_alone "$@"
 }
 
 # ---- what is built, and of which sources
@@ -107,16 +120,15 @@ prove_program() {
     note_made "$name" "$sum" "${products[@]}"
 }
 
-# The first rustc that has the standard library for x86-64; Debian's may stand behind another in PATH.
+# The first rustc in PATH that has the standard library for x86-64; Debian's may stand behind another.
 rustc_for_x86_64() {
     local rustc libraries
-    for rustc in rustc /usr/bin/rustc; do
-        rustc=$(command -v "$rustc") || continue
+    while IFS= read -r rustc; do
         libraries=$("$rustc" --print target-libdir --target x86_64-unknown-linux-gnu 2>/dev/null) || continue
         if compgen -G "$libraries/libstd-*.rlib" >/dev/null; then
             echo "$rustc"
             return
         fi
-    done
+    done < <(type -ap rustc)
     return 1
 }
