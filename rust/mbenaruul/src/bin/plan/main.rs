@@ -19,7 +19,7 @@ words:
 
 /// What was found out, from the best to the worst: the worst of all is the exit status.
 #[derive(Clone, Copy, PartialEq, Eq, PartialOrd, Ord)]
-enum Status {
+pub enum Status {
     Yes = 0,
     No = 1,
     Trouble = 2,
