@@ -8,10 +8,9 @@ root=${root%/tools/common.sh}
 
 # Nothing is taken from the current folder, whatever stands in it: of PATH only the folders that are named from / on.
 clean_path() {
-    local folder path=
-    local -a folders
-    IFS=: read -r -a folders <<<"${PATH-}"
-    for folder in "${folders[@]}"; do
+    local folder path= rest=${PATH-}:
+    while [ -n "$rest" ]; do
+        folder=${rest%%:*} rest=${rest#*:}
         [[ $folder != /* ]] || path+=${path:+:}$folder
     done
     PATH=${path:-/usr/bin:/bin}

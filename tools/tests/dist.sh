@@ -23,7 +23,7 @@ told 'dist: every file has its checksum' sha256sum --quiet --strict -c SHA256SUM
 listed_files() { (find . -type f ! -name SHA256SUMS -printf '%P\n' | LC_ALL=C sort) | cmp - <(cut -c 67- SHA256SUMS); }
 told 'dist: and no file is without' listed_files
 told 'dist: the version' says 0 "$version" cat VERSION
-told 'dist: no name of a folder of this system is in it' says 1 '' grep -rlF -e "$root" -e "$HOME/" .
+told 'dist: no name of a folder of this system is in it' says 1 '' grep -rlF -e "$root" .
 
 # Programs that need nothing of the system but its kernel.
 is_static() { readelf -lW "$1" >"$told_log" && ! grep -q INTERP "$told_log"; }

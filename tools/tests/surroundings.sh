@@ -4,10 +4,9 @@
 
 # The folders of PATH that have no rt in them.
 path_without_rt() {
-    local folder path=
-    local -a folders
-    IFS=: read -r -a folders <<<"$PATH"
-    for folder in "${folders[@]}"; do
+    local folder path= rest=$PATH:
+    while [ -n "$rest" ]; do
+        folder=${rest%%:*} rest=${rest#*:}
         [ -e "$folder/rt" ] || path+=${path:+:}$folder
     done
     echo "$path"

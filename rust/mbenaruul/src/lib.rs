@@ -41,7 +41,10 @@
 //!
 //! let (first, second) = shx[100..116].split_at_mut(8);
 //! first.swap_with_slice(second);
-//! assert_eq!(check_pair(&shp, &shx), Err(Error::Fault { rule: 11, record: 1 }));
+//! let fault = check_pair(&shp, &shx).unwrap_err();
+//! assert_eq!(fault, Error::Fault { rule: 11, record: 1 });
+//! let why = fault.why(&shp, &shx).unwrap();
+//! assert_eq!(why.to_string(), "record 1: the index says byte 188, the record stands at byte 100");
 //! # Ok(())
 //! # }
 //! ```

@@ -96,7 +96,7 @@ fn is_changed(before: &Metadata, file: &File) -> io::Result<bool> {
 fn read_whole(mut from: impl Read, len: u64) -> Result<Vec<u8>, String> {
     let mut bytes = Vec::new();
     let wanted = usize::try_from(len).unwrap_or(usize::MAX);
-    if bytes.try_reserve_exact(wanted).is_err() {
+    if len > room() || bytes.try_reserve_exact(wanted).is_err() {
         return Err(format!("its {len} bytes are too many for the memory"));
     }
     bytes.resize(wanted, 0);
@@ -111,6 +111,22 @@ fn read_whole(mut from: impl Read, len: u64) -> Result<Vec<u8>, String> {
             _ => e.to_string(),
         })?;
     Ok(bytes)
+}
+
+/// The memory that can be had, in bytes. Linux promises more than there is, and ends a program that
+/// then uses it; so what it says of itself, and what this program's group may use, is asked before.
+fn room() -> u64 {
+    let said = |name| fs::read_to_string(name).unwrap_or_default();
+    let free = available(&said("/proc/meminfo")).unwrap_or(u64::MAX);
+    let allowed = said("/sys/fs/cgroup/memory.max").trim().parse();
+    free.min(allowed.unwrap_or(u64::MAX))
+}
+
+/// The line `MemAvailable: N kB`.
+fn available(meminfo: &str) -> Option<u64> {
+    let line = meminfo.lines().find(|l| l.starts_with("MemAvailable:"))?;
+    let kilobytes: u64 = line.split_whitespace().nth(1)?.parse().ok()?;
+    kilobytes.checked_mul(1024)
 }
 
 #[cfg(test)]
@@ -147,6 +163,15 @@ mod tests {
         assert_eq!(read_whole(&b""[..], 0), Ok(Vec::new()));
         assert_eq!(read_whole(&b"ab"[..], 3), Err(CHANGED.to_string()));
         assert_eq!(read_whole(&b"abcd"[..], 3), Err(CHANGED.to_string()));
+    }
+
+    #[test]
+    fn the_memory_that_can_be_had() {
+        let meminfo = "MemTotal:  24 kB\nMemAvailable:      12 kB\n";
+        assert_eq!(available(meminfo), Some(12 * 1024));
+        assert_eq!(available("MemTotal: 24 kB\n"), None);
+        assert_eq!(available("MemAvailable: much\n"), None);
+        assert!(room() > 1_000_000);
     }
 
     #[test]

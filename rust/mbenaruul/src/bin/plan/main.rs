@@ -40,7 +40,7 @@ fn run(arguments: &[OsString]) -> Status {
         Some(alone @ ("--help" | "-h" | "--version")) if !rest.is_empty() => {
             trouble(&format!("plan: {alone} stands alone"))
         }
-        Some("--help" | "-h") => say(&format!("{USAGE}\n\n{HELP}"), Status::Yes),
+        Some("--help" | "-h") => say(format!("{USAGE}\n\n{HELP}"), Status::Yes),
         Some("--version") => say(concat!("plan ", env!("CARGO_PKG_VERSION")), Status::Yes),
         _ => unknown("plan", word),
     }
