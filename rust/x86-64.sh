@@ -1,4 +1,4 @@
-# Sourced behind tools/common.sh by the scripts that build for Rust and C: what builds and runs x86-64 programs here. The archive of the proved library
+# Sourced behind tools/made.sh by the scripts that build for Rust and C: what builds and runs x86-64 programs here. The archive of the proved library
 # links into no others; on another processor they are built with Debian's cross packages and run by an emulator. Sets
 #   built     the folder of all that is built
 #   archive   the folder of libexport.a
@@ -23,15 +23,13 @@ if [ "$(uname -m)" != x86_64 ]; then
     export RUSTC_BOOTSTRAP=1 CARGO_UNSTABLE_DOCTEST_XCOMPILE=true
 fi
 
-# Makes libexport.a, where that has not been done of the sources as they are.
+# libexport.a is proved and built.
 make_archive() {
-    is_made libexport.a "$(proved_sum)" "$archive/libexport.a" || alone_in_target prove_archive
+    made libexport.a proved_sum prove_archive "$archive/libexport.a"
 }
 
 prove_archive() {
-    local sum said
-    sum=$(proved_sum)
-    ! is_made libexport.a "$sum" "$archive/libexport.a" || return 0
+    local said
     "$root/tools/setup" rt || return 3
     echo "rust: proving and building the library first, which takes some minutes" >&2
     said=$(cd "$root" && rt staticlib export 2>&1) || {
@@ -39,11 +37,6 @@ prove_archive() {
         echo "rust: rt staticlib export failed" >&2
         return 1
     }
-    [ "$(proved_sum)" = "$sum" ] || {
-        echo "rust: the sources changed while the library was built" >&2
-        return 1
-    }
-    note_made libexport.a "$sum" "$archive/libexport.a"
 }
 
 # in_crate SUBCOMMAND WORDS..: in the crate's own folder, since cargo looks for its settings from the current one on.

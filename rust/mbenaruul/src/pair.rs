@@ -44,7 +44,7 @@ pub fn check_pair(shp: &[u8], shx: &[u8]) -> Result<Totals, Error> {
 pub enum Verdict {
     /// The two files are a pair.
     Yes(Totals),
-    /// They are not.
+    /// They are not. The repository's docs/RULES.md says each rule in plain words.
     No {
         /// The first rule that is broken: 11 for P11.
         rule: u32,
