@@ -13,9 +13,8 @@ RUSTC=$(rustc_for_x86_64)
 cargo=${RUSTC%/*}/cargo
 cc=(cc) run=()
 export RUSTC RUSTDOC=${RUSTC%/*}/rustdoc MBENARUUL_LIB=$archive CARGO_TARGET_DIR=$built CARGO_BUILD_TARGET=x86_64-unknown-linux-gnu
-# Programs are static, so that they run where they are handed to, and in an emulator; and no folder's name gets into them.
-separator=$'\x1f'
-export CARGO_ENCODED_RUSTFLAGS="-Ctarget-feature=+crt-static$separator--remap-path-prefix=$root=mbenaruul" CARGO_ENCODED_RUSTDOCFLAGS='-Ctarget-feature=+crt-static'
+# Programs are static, so that they run where they are handed to, and in an emulator.
+export CARGO_ENCODED_RUSTFLAGS=-Ctarget-feature=+crt-static CARGO_ENCODED_RUSTDOCFLAGS=-Ctarget-feature=+crt-static
 if [ "$(uname -m)" != x86_64 ]; then
     cc=(x86_64-linux-gnu-gcc -static) run=(qemu-x86_64)
     export CARGO_TARGET_X86_64_UNKNOWN_LINUX_GNU_LINKER=${cc[0]} CARGO_TARGET_X86_64_UNKNOWN_LINUX_GNU_RUNNER=${run[0]}
