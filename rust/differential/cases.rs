@@ -113,7 +113,7 @@ impl Stream {
                 }
             }
         });
-        let every = chosen.len().div_ceil(30);
+        let every = (chosen.len() + 29) / 30; // rounded up
         chosen.iter().step_by(every).for_each(|(flags, input)| self.put(part_number, *flags, input));
         self.finish(part_number, 25, 1);
         self.flush();

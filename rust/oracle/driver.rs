@@ -114,11 +114,11 @@ impl Read for Source<'_> {
 impl Seek for Source<'_> {
     fn seek(&mut self, to: SeekFrom) -> io::Result<u64> {
         let at = match to {
-            SeekFrom::Start(offset) => Some(offset),
-            SeekFrom::Current(distance) => (self.at as u64).checked_add_signed(distance),
-            SeekFrom::End(distance) => (self.bytes.len() as u64).checked_add_signed(distance),
+            SeekFrom::Start(offset) => i128::from(offset),
+            SeekFrom::Current(distance) => self.at as i128 + i128::from(distance),
+            SeekFrom::End(distance) => self.bytes.len() as i128 + i128::from(distance),
         };
-        let at = at.ok_or(ErrorKind::InvalidInput)?;
+        let at = u64::try_from(at).map_err(|_| ErrorKind::InvalidInput)?;
         self.at = at as usize;
         Ok(at)
     }
@@ -389,7 +389,7 @@ where
 
 /// Whether the stores hold `points` points each.
 fn holds(body: &Body, points: usize) -> bool {
-    let run_holds = |run: &Option<Run>| run.as_ref().is_none_or(|run| run.values.len() == points);
+    let run_holds = |run: &Option<Run>| run.as_ref().map_or(true, |run| run.values.len() == points);
     points.checked_mul(2) == Some(body.xy.len()) && run_holds(&body.z) && run_holds(&body.m)
 }
 
@@ -399,7 +399,7 @@ fn counts_agree(body: &Body) -> bool {
         .counts
         .iter()
         .try_fold(0usize, |sum, count| sum.checked_add(*count));
-    sum.is_some_and(|points| holds(body, points))
+    sum.map_or(false, |points| holds(body, points))
 }
 
 fn points_of<P: Coordinates>(body: &Body) -> Vec<P> {
@@ -538,8 +538,9 @@ fn reserves_of(bytes: &[u8], point: u64) -> u64 {
     let mut points = 0;
     for (part, start) in starts.iter().enumerate() {
         let end = starts.get(part + 1).copied().unwrap_or(n);
-        let Some(count) = end.checked_sub(*start).and_then(|n| u64::try_from(n).ok()) else {
-            break;
+        let count = match end.checked_sub(*start).and_then(|n| u64::try_from(n).ok()) {
+            Some(count) => count,
+            None => break,
         };
         points += count;
         at += 16 * count;
@@ -694,7 +695,7 @@ pub fn expressible(shape: &Shape) -> bool {
         has_parts(*code) && counts_agree(body)
     };
     agree
-        && kind(*code).is_some_and(|kind| (kind.z, kind.m) == (body.z.is_some(), body.m.is_some()))
+        && kind(*code).map_or(false, |kind| (kind.z, kind.m) == (body.z.is_some(), body.m.is_some()))
 }
 
 /// The two files of a writer.
@@ -827,7 +828,7 @@ fn constructor_panics(shape: &Shape) -> bool {
     let counts = &shape.body.counts;
     match shape.kind {
         3 | 13 | 23 => counts.is_empty() || counts.iter().any(|count| *count < 2),
-        5 | 15 | 25 => counts.first().is_none_or(|count| *count == 0),
+        5 | 15 | 25 => counts.first().map_or(true, |count| *count == 0),
         _ => false,
     }
 }
