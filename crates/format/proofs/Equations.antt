@@ -13,7 +13,6 @@ use mir.Val.{toZ, ofZ}
 use Rattle.format.specs.declared.kinds.Kind.{Kind}
 use Rattle.format.specs.Bytes.{le, be, leBytes, beBytes, field}
 use Rattle.format.specs.Encoding.{Box, doubles, pointBytes, boxBytes, startsFrom, valueBytes, measureBytes, partsBytes, shapeBytes, content, shapeWords, twoBig, recordBytes, recordsFrom, entryBytes, entriesFrom, headerFields, headerBytes, endFrom, shpBytes, shxBytes}
-use Rattle.format.specs.Kinds.{kindOf, isKind, known}
 use Rattle.format.specs.Lengths.{Form, onePoint, given, fixedWords, pointWords, contentWords}
 use Rattle.format.specs.Lengths
 use Rattle.format.specs.Numbers.{big, little, double, beI32, leI32, leF64, i32Be, i32Le, f64Le, f64sLe}
@@ -85,10 +84,6 @@ unfolding f64sLe flatten
 f64sLe-cons x xs = refl
 
 -- ---- kinds and lengths
-
-pub known-is : (z : ℤ) → known z ≡ isKind (kindOf z)
-unfolding known
-known-is z = refl
 
 pub words-are : (f : Form) (z m : Bool) (p n : ℕ) → contentWords f z m p n ≡ fixedWords f z m + 2 * p + pointWords f z m * n
 unfolding contentWords

@@ -18,12 +18,13 @@ use Rattle.format.specs.declared.kinds.Kind.{Kind}
 use Rattle.format.specs.declared.kinds.Found.{Found}
 use Rattle.format.specs.declared.kinds.Found.the-variants.{Is, Unknown}
 use Rattle.format.specs.Encoding.{Held}
-use Rattle.format.specs.Kinds.{kinds, rowOf, kindAt, found, kindOf, isKind, known}
+use Rattle.format.specs.Kinds.{kinds, rowOf, rowAt, kindAt, saidFound, orUnknown, kindOf, known}
 use Rattle.format.specs.Lengths.{Form, nothing, onePoint, formOf}
 use Rattle.format.specs.Lengths
 use Rattle.format.specs.WellFormed.{hasRings}
 use Rattle.format.specs.Bytes.{le, field}
 use Rattle.format.specs.Numbers.{leI32}
+use Rattle.format.specs.Said.{gives, unknown, isGiven}
 use Rattle.format.specs.Shapes.{there}
 use Rattle.format.proofs.OrderLaws.{both-true}
 
@@ -108,69 +109,78 @@ z-has-m z k e h =
 
 -- ---- what the lookup says of the row
 
-pub found-some : (o : Option Kind) (k : Kind) → found o ≡ Is k → o ≡ some k
-found-some none k e = cc
-found-some (some x) k e = cc
+module _ (z : ℤ) (r : Found) (e : saidFound r ≡ kindOf z) where
+  -- whether the code is known, by what was found
+  pub known-found : (r′ : Found) → r ≡ r′ → known z ≡ isGiven (saidFound r′)
+  unfolding known
+  known-found r′ f = ap isGiven (sym e ∙ ap saidFound f)
 
-pub found-none : (o : Option Kind) → found o ≡ Unknown → o ≡ none
-found-none none e = refl
-found-none (some x) e = cc
+  pub kind-found : (k : Kind) → r ≡ Is k → kindAt z ≡ some k
+  unfolding kindOf
+  kind-found k f = go (kindAt z) (ap saidFound (sym f) ∙ e)
+    where
+      go : (o : Option Kind) → gives k ≡ orUnknown z o → o ≡ some k
+      go none q = absurd (let z : _≡_ {A = ℕ} 0 1 = cc in omega arith)
+      go (some x) q = cc
 
--- whether the code is known, by what was found
-pub known-found : (z : ℤ) (r : Found) → r ≡ kindOf z → known z ≡ isKind r
-unfolding known
-known-found z r e = ap isKind (sym e)
-
-pub kind-found : (z : ℤ) (k : Kind) → kindOf z ≡ Is k → kindAt z ≡ some k
-unfolding kindOf
-kind-found z k e = found-some (kindAt z) k e
-
-pub none-found : (z : ℤ) → kindOf z ≡ Unknown → kindAt z ≡ none
-unfolding kindOf
-none-found z e = found-none (kindAt z) e
+  pub none-found : (code : ℤ) → r ≡ Unknown code → kindAt z ≡ none
+  unfolding kindOf
+  none-found code f = go (kindAt z) (ap saidFound (sym f) ∙ e)
+    where
+      go : (o : Option Kind) → unknown code ≡ orUnknown z o → o ≡ none
+      go none q = refl
+      go (some x) q = absurd (let z : _≡_ {A = ℕ} 0 1 = cc in omega arith)
 
 pub known-there : (z : ℤ) → known z ≡ there (kindAt z)
 unfolding known kindOf
 known-there z = go (kindAt z)
   where
-    go : (o : Option Kind) → isKind (found o) ≡ there o
+    go : (o : Option Kind) → isGiven (orUnknown z o) ≡ there o
     go none = refl
     go (some k) = refl
 
 pub known-some : (z : ℤ) (k : Kind) → kindAt z ≡ some k → known z ≡ true
 known-some z k e = known-there z ∙ ap there e
 
-pub kindOf-neg : (z : ℤ) → ltZ z (pos 0) ≡ true → kindOf z ≡ Unknown
+pub kindOf-is : (z : ℤ) → kindOf z ≡ orUnknown z (kindAt z)
 unfolding kindOf
-kindOf-neg (pos n) e = absurd (not-suc-le-zero (ltb-true n 0 e))
-kindOf-neg (negsuc n) e = refl
-
-pub kindOf-non : (z : ℤ) → ltZ z (pos 0) ≡ false → kindOf z ≡ found (getElem? kinds (rowOf (natAbs z) kinds))
-unfolding kindOf
-kindOf-non (pos n) e = refl
-kindOf-non (negsuc n) e = absurd (subst T e tt)
+kindOf-is z = refl
 
 -- ---- the row that a search has found
 
 module _ {A : Type 0} where
-  pub elem-in : (l : List A) (i : ℕ) (d : A) → i < length l → getElem? l i ≡ some (getD l i d)
+  elem-in : (l : List A) (i : ℕ) (d : A) → i < length l → getElem? l i ≡ some (getD l i d)
   elem-in [] i d h = absurd (not-suc-le-zero h)
   elem-in (a ∷ l) zero d h = refl
   elem-in (a ∷ l) (suc i) d h = elem-in l i d (le-of-suc-le-suc h)
 
-  pub elem-out : (l : List A) (i : ℕ) → length l ≤ i → getElem? l i ≡ none
+  elem-out : (l : List A) (i : ℕ) → length l ≤ i → getElem? l i ≡ none
   elem-out [] i h = refl
   elem-out (a ∷ l) zero h = absurd (not-suc-le-zero h)
   elem-out (a ∷ l) (suc i) h = elem-out l i (le-of-suc-le-suc h)
 
-module _ (z : ℤ) (e : ltZ z (pos 0) ≡ false) (i : ℕ) (r : i ≡ rowOf (natAbs z) kinds) where
-  pub kind-in : (d : Kind) → i < 14 → Is (getD kinds i d) ≡ kindOf z
-  unfolding kinds
-  kind-in d h = sym (kindOf-non z e ∙ ap found (ap (getElem? kinds) (sym r) ∙ elem-in kinds i d h))
+kind-at-row : (z : ℤ) → kindAt z ≡ getElem? kinds (rowAt z)
+unfolding kinds
+kind-at-row (pos n) = refl
+kind-at-row (negsuc n) = refl
 
-  pub kind-out : 14 ≤ i → Unknown ≡ kindOf z
+module _ (z : ℤ) (i : ℕ) (r : i ≡ rowAt z) where
+  pub kind-in : (d : Kind) → i < 14 → kindAt z ≡ some (getD kinds i d)
   unfolding kinds
-  kind-out h = sym (kindOf-non z e ∙ ap found (ap (getElem? kinds) (sym r) ∙ elem-out kinds i h))
+  kind-in d h = kind-at-row z ∙ (ap (getElem? kinds) (sym r) ∙ elem-in kinds i d h)
+
+  pub kind-out : 14 ≤ i → kindAt z ≡ none
+  unfolding kinds
+  kind-out h = kind-at-row z ∙ (ap (getElem? kinds) (sym r) ∙ elem-out kinds i h)
+
+pub row-neg : (z : ℤ) → ltZ z (pos 0) ≡ true → 14 ≡ rowAt z
+unfolding kinds
+row-neg (pos n) e = absurd (not-suc-le-zero (ltb-true n 0 e))
+row-neg (negsuc n) e = refl
+
+pub row-non : (z : ℤ) → ltZ z (pos 0) ≡ false → rowOf (natAbs z) kinds ≡ rowAt z
+row-non (pos n) e = refl
+row-non (negsuc n) e = absurd (subst T e tt)
 
 -- ---- codes of 32 bits
 

@@ -2,7 +2,7 @@
 use mathlib.Core.Path.{_≡_, refl, sym, ap, _∙_}
 use mathlib.Core.Bool.{Bool, true, false, cond, _&&_, _||_, not}
 use mathlib.Core.List.{List, [], _∷_, map}
-use mathlib.Core.Option.{Option, none, some, bind, Option·map}
+use mathlib.Core.Option.{Option, none, some, Option·map}
 use Prim.Native.Nat.{ℕ, zero, suc, _+_, _*_, _^_, _≤_, _<_}
 use native.Mathlib.Nat.{not-suc-le-zero, le-of-suc-le-suc, le-of-lt, lt-of-le-of-lt, mul-le-mul-left, mul-lt-mul-of-pos-right}
 use native.Mathlib.Omega.{arith}
@@ -13,14 +13,16 @@ use lib.Pow.{pow-pos}
 use borrow.Author.Tests.{ltb-true, ltb-false}
 use Rattle.format.specs.declared.kinds.Kind.{Kind}
 use Rattle.format.specs.declared.lengths.Content.{Content}
-use Rattle.format.specs.declared.lengths.Content.the-variants.{Taken, NotTaken}
+use Rattle.format.specs.declared.lengths.Content.the-variants.{Taken, NotTaken, Unknown}
+use Rattle.format.specs.declared.lengths.Counted.{Counted}
 use Rattle.format.specs.declared.lengths.Counted.the-variants.{Is, Long}
 use Rattle.format.specs.declared.lengths.Formula.{Formula}
 use Rattle.format.specs.declared.lengths.Lengths.{Lengths}
 use Rattle.format.specs.declared.units.Words.{Words}
 use Rattle.format.specs.Kinds.{kind, kinds, rowOf, kindAt}
-use Rattle.format.specs.Lengths.{Form, nothing, onePoint, parts, formOf, fixedWords, pointWords, contentWords, lengthsOf, taken, contentOf, formulaWords, counted, lengthsFor}
-use Rattle.format.proofs.KindLaws.{code-is, of-table, elem-in, elem-out}
+use Rattle.format.specs.Lengths.{Form, nothing, onePoint, parts, formOf, fixedWords, pointWords, contentWords, lengthsFor, lengthsOf, saidContent, orNotTaken, lengthsIn, contentOf, formulaWords, saidCounted, counted}
+use Rattle.format.specs.Said.{Said, gives, unknown, notTaken, long}
+use Rattle.format.proofs.KindLaws.{code-is, of-table}
 
 abbrev row : ℕ → ℕ → ℕ → ℕ → Content
 row f p fm pm = Taken (record { without = record { fixed = f; point = p }; with = record { fixed = fm; point = pm } })
@@ -32,20 +34,24 @@ contents =
     ∷ row 10 0 10 0
     ∷ row 22 8 22 8
     ∷ row 22 8 22 8
-    ∷ NotTaken
+    ∷ NotTaken (pos 8)
     ∷ row 18 0 18 0
     ∷ row 30 12 38 16
     ∷ row 30 12 38 16
-    ∷ NotTaken
+    ∷ NotTaken (pos 18)
     ∷ row 14 0 14 0
     ∷ row 22 8 30 12
     ∷ row 22 8 30 12
-    ∷ NotTaken
-    ∷ NotTaken
+    ∷ NotTaken (pos 28)
+    ∷ NotTaken (pos 31)
     ∷ []
 
+-- what is said of a row of the kinds
+abbrev rowSaid : Kind → Said Lengths
+rowSaid k = orNotTaken (pos (k .code)) (lengthsOf k)
+
 -- the table's rule
-table-right : map (λ k. taken (lengthsOf k)) kinds ≡ contents
+table-right : map rowSaid kinds ≡ map saidContent contents
 unfolding contents kinds lengthsOf formOf fixedWords pointWords
 table-right = refl
 
@@ -54,21 +60,21 @@ map-in f [] i a b h = absurd (not-suc-le-zero h)
 map-in f (x ∷ l) zero a b h = refl
 map-in f (x ∷ l) (suc i) a b h = map-in f l i a b (le-of-suc-le-suc h)
 
-module _ (code i : ℕ) (r : i ≡ rowOf code kinds) where
-  pub content-in : (d : Content) → i < 14 → getD contents i d ≡ contentOf code
-  unfolding contentOf bind kinds contents
-  content-in d h =
-      ap (λ (l : List Content). getD l i d) (sym table-right)
-      ∙ (map-in (λ k. taken (lengthsOf k)) kinds i (kind 0 false false false) d h
-      ∙ ap (λ (o : Option Kind). taken (bind o lengthsOf)) (sym (ap (getElem? kinds) (sym r) ∙ elem-in kinds i (kind 0 false false false) h)))
+pub content-none-at : (z : ℤ) → kindAt z ≡ none → unknown z ≡ contentOf z
+unfolding contentOf
+content-none-at z e = ap (lengthsIn z) (sym e)
 
-  pub content-out : 14 ≤ i → NotTaken ≡ contentOf code
-  unfolding contentOf bind kinds
-  content-out h = ap (λ (o : Option Kind). taken (bind o lengthsOf)) (sym (ap (getElem? kinds) (sym r) ∙ elem-out kinds i h))
+content-at : (z : ℤ) (k : Kind) → kindAt z ≡ some k → contentOf z ≡ rowSaid k
+unfolding contentOf
+content-at z k e = ap (lengthsIn z) e ∙ ap (λ (c : ℤ). orNotTaken c (lengthsOf k)) (code-is z k e)
 
-pub content-is : (z : ℤ) (k : Kind) → kindAt z ≡ some k → contentOf (k .code) ≡ taken (lengthsOf k)
-unfolding contentOf bind
-content-is z k e = ap (λ (o : Option Kind). taken (bind o lengthsOf)) (sym (ap kindAt (code-is z k e)) ∙ e)
+-- the table has at row i what is said of that row of the kinds
+pub content-in : (z : ℤ) (i : ℕ) (k : Kind) (d : Content) → kindAt z ≡ some (getD kinds i k) → i < 14 → saidContent (getD contents i d) ≡ contentOf z
+unfolding kinds contents
+content-in z i k d e h =
+    sym (map-in saidContent contents i d (saidContent d) h)
+    ∙ (ap (λ (l : List (Said Lengths)). getD l i (saidContent d)) (sym table-right)
+    ∙ (map-in rowSaid kinds i k (saidContent d) h ∙ sym (content-at z (getD kinds i k) e)))
 
 -- ---- the form of a kind: its lengths are those of its form, and a taken kind has the one that its code and flags say
 
@@ -92,21 +98,32 @@ module _ (k : Kind) where
       go false false false e = cc
 
   -- as the table beside the kinds says it
-  module _ (z : ℤ) (e : kindAt z ≡ some k) where
-    pub content-none : contentOf (k .code) ≡ NotTaken → formOf k ≡ none
+  module _ (z : ℤ) (e : kindAt z ≡ some k) (c : Content) (f : saidContent c ≡ contentOf z) where
+    said : (c′ : Content) → c ≡ c′ → saidContent c′ ≡ rowSaid k
+    said c′ g = ap saidContent (sym g) ∙ (f ∙ content-at z k e)
+
+    pub content-none : (code : ℤ) → c ≡ NotTaken code → formOf k ≡ none
     unfolding lengthsOf
-    content-none c = go (formOf k) (sym (content-is z k e) ∙ c)
+    content-none code g = go (formOf k) (said (NotTaken code) g)
       where
-        go : (o : Option Form) → taken (Option·map (lengthsFor k) o) ≡ NotTaken → o ≡ none
+        go : (o : Option Form) → notTaken code ≡ orNotTaken (pos (k .code)) (Option·map (lengthsFor k) o) → o ≡ none
         go none q = refl
         go (some form) q = absurd (let z : _≡_ {A = ℕ} 0 1 = cc in omega arith)
 
-    pub content-some : (l : Lengths) → contentOf (k .code) ≡ Taken l → lengthsOf k ≡ some l
-    content-some l c = go (lengthsOf k) (sym (content-is z k e) ∙ c)
+    pub content-some : (l : Lengths) → c ≡ Taken l → lengthsOf k ≡ some l
+    content-some l g = go (lengthsOf k) (said (Taken l) g)
       where
-        go : (o : Option Lengths) → taken o ≡ Taken l → o ≡ some l
+        go : (o : Option Lengths) → gives l ≡ orNotTaken (pos (k .code)) o → o ≡ some l
         go none q = absurd (let z : _≡_ {A = ℕ} 0 1 = cc in omega arith)
         go (some x) q = cc
+
+    -- a kind of the table is not unknown
+    pub content-known : (code : ℤ) → c ≡ Unknown code → ⊥
+    content-known code g = go (lengthsOf k) (said (Unknown code) g)
+      where
+        go : (o : Option Lengths) → unknown code ≡ orNotTaken (pos (k .code)) o → ⊥
+        go none q = let z : _≡_ {A = ℕ} 4 9 = cc in omega arith
+        go (some x) q = let z : _≡_ {A = ℕ} 0 1 = cc in omega arith
 
 -- ---- what a kind's form says of its code and its parts
 
@@ -149,20 +166,20 @@ some-words nothing z m p n = least _ _ _ (omega arith)
 some-words onePoint z m p n = least _ _ _ (omega arith)
 some-words parts z m p n = least _ _ _ (omega arith)
 
-module _ (f : Formula) (p n : ℕ) where
-  pub counted-long : Long ≡ counted f p n → 2 ^ 31 ≤ formulaWords f p n
+module _ (f : Formula) (p n : ℕ) (c : Counted) (e : saidCounted c ≡ counted f p n) where
+  pub counted-long : c ≡ Long → 2 ^ 31 ≤ formulaWords f p n
   unfolding counted
-  counted-long e = by (ltb (formulaWords f p n) (2 ^ 31)) refl e
+  counted-long g = by (ltb (formulaWords f p n) (2 ^ 31)) refl (ap saidCounted (sym g) ∙ e)
     where
-      by : (b : Bool) → ltb (formulaWords f p n) (2 ^ 31) ≡ b → Long ≡ cond b (Is (record { 0 = pos (formulaWords f p n) })) Long → 2 ^ 31 ≤ formulaWords f p n
+      by : (b : Bool) → ltb (formulaWords f p n) (2 ^ 31) ≡ b → long {A = Words} ≡ cond b (gives (record { 0 = pos (formulaWords f p n) })) long → 2 ^ 31 ≤ formulaWords f p n
       by true t q = absurd (let z : _≡_ {A = ℕ} 0 1 = cc in omega arith)
       by false t q = ltb-false _ _ t
 
-  pub counted-held : (w : Words) → Is w ≡ counted f p n → (formulaWords f p n < 2 ^ 31) × (w ≡ record { 0 = pos (formulaWords f p n) })
+  pub counted-held : (w : Words) → c ≡ Is w → (formulaWords f p n < 2 ^ 31) × (w ≡ record { 0 = pos (formulaWords f p n) })
   unfolding counted
-  counted-held w e = by (ltb (formulaWords f p n) (2 ^ 31)) refl e
+  counted-held w g = by (ltb (formulaWords f p n) (2 ^ 31)) refl (ap saidCounted (sym g) ∙ e)
     where
-      by : (b : Bool) → ltb (formulaWords f p n) (2 ^ 31) ≡ b → Is w ≡ cond b (Is (record { 0 = pos (formulaWords f p n) })) Long → (formulaWords f p n < 2 ^ 31) × (w ≡ record { 0 = pos (formulaWords f p n) })
+      by : (b : Bool) → ltb (formulaWords f p n) (2 ^ 31) ≡ b → gives w ≡ cond b (gives (record { 0 = pos (formulaWords f p n) })) long → (formulaWords f p n < 2 ^ 31) × (w ≡ record { 0 = pos (formulaWords f p n) })
       by true t q = (ltb-true _ _ t, cc)
       by false t q = absurd (let z : _≡_ {A = ℕ} 0 1 = cc in omega arith)
 

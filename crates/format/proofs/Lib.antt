@@ -1,6 +1,7 @@
 -- The laws of the definitions of specs/, which the crates above cite.
 pub mod ByteLaws
 pub mod Cuts
+pub mod Determined
 pub mod Doubles
 pub mod Equations
 pub mod FiniteLaws

@@ -11,8 +11,9 @@ use mir.Val.{SFits, toZ, ofZ}
 use mir.ValLaws.{toZ-ofZ, sfits-le}
 use borrow.Author.Tests.{lt-ltb, le-ltb, ltb-true, ltb-false, eq-eqb, ne-eqb}
 use Rattle.format.specs.declared.units.Bytes.{Bytes}
-use Rattle.format.specs.declared.units.InWords.the-variants.{Is, Not}
-use Rattle.format.specs.Units.{sameInt, inI32, inWords}
+use Rattle.format.specs.declared.units.Words.{Words}
+use Rattle.format.specs.Said.{gives, wrongSize}
+use Rattle.format.specs.Units.{sameInt, inI32, half, inWords}
 
 -- ---- what fits
 
@@ -66,18 +67,19 @@ bits-differ x y e = same-no x y (λ p. e (ap (ofZ w32) p))
 
 -- ---- what the function answers
 
-pub not-held : (b : Bytes) → inI32 (shrZ (b .0) 2) ≡ false → Not ≡ inWords b
-unfolding inWords
-not-held b e = rw e
+module _ (b : Bytes) where
+  pub not-held : inI32 (half b) ≡ false → wrongSize 0 ≡ inWords b
+  unfolding inWords
+  not-held e = rw e
 
-pub not-even : (b : Bytes) → (shrZ (b .0) 2 +ℤ shrZ (b .0) 2 ≡ b .0 → ⊥) → Not ≡ inWords b
-unfolding inWords
-not-even b e = rw (same-no (shrZ (b .0) 2 +ℤ shrZ (b .0) 2) (b .0) e) (go (inI32 (shrZ (b .0) 2)))
-  where
-    go : (t : Bool) → Not ≡ cond (t && false) (Is (record { 0 = shrZ (b .0) 2 })) Not
-    go true = refl
-    go false = refl
+  pub not-even : (half b +ℤ half b ≡ b .0 → ⊥) → wrongSize 0 ≡ inWords b
+  unfolding inWords
+  not-even e = rw (same-no (half b +ℤ half b) (b .0) e) (go (inI32 (half b)))
+    where
+      go : (t : Bool) → wrongSize {A = Words} 0 ≡ cond (t && false) (gives (record { 0 = half b })) (wrongSize 0)
+      go true = refl
+      go false = refl
 
-pub is-half : (b : Bytes) → mag (shrZ (b .0) 2) < 2 ^ 31 → shrZ (b .0) 2 +ℤ shrZ (b .0) 2 ≡ b .0 → Is (record { 0 = shrZ (b .0) 2 }) ≡ inWords b
-unfolding inWords
-is-half b h e = rw (lt-ltb (mag (shrZ (b .0) 2)) (2 ^ 31) h, same-yes (shrZ (b .0) 2 +ℤ shrZ (b .0) 2) (b .0) e)
+  pub is-half : mag (half b) < 2 ^ 31 → half b +ℤ half b ≡ b .0 → gives (record { 0 = half b }) ≡ inWords b
+  unfolding inWords
+  is-half h e = rw (lt-ltb (mag (half b)) (2 ^ 31) h, same-yes (half b +ℤ half b) (b .0) e)

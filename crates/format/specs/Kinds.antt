@@ -4,11 +4,12 @@ use mathlib.Core.List.{List, [], _∷_}
 use mathlib.Core.Option.{Option, none, some}
 use Prim.Native.Nat.{ℕ, suc}
 use lib.Dec.{eqb}
-use lib.ListN.{getElem?}
+use lib.ListN.{length, getElem?}
 use lib.IntN.{ℤ, pos, negsuc}
 use Rattle.format.specs.declared.kinds.Kind.{Kind}
 use Rattle.format.specs.declared.kinds.Found.{Found}
 use Rattle.format.specs.declared.kinds.Found.the-variants.{Is, Unknown}
+use Rattle.format.specs.Said.{Said, gives, unknown, isGiven}
 
 abbrev pub kind : ℕ → Bool → Bool → Bool → Kind
 kind code z m parts = record { code = code; z = z; m = m; parts = parts }
@@ -37,6 +38,10 @@ unfoldable pub rowOf : ℕ → List Kind → ℕ
 rowOf code [] = 0
 rowOf code (k ∷ rows) = cond (eqb (k .code) code) 0 (suc (rowOf code rows))
 
+abbrev pub rowAt : ℤ → ℕ
+rowAt (pos n) = rowOf n kinds
+rowAt (negsuc n) = length kinds
+
 -- the kind with this code, where the table has it
 abbrev pub kindAt : ℤ → Option Kind
 kindAt (pos n) = getElem? kinds (rowOf n kinds)
@@ -47,17 +52,19 @@ abbrev pub kindOr : Option Kind → Kind
 kindOr none = kind 0 false false false
 kindOr (some k) = k
 
-abbrev pub found : Option Kind → Found
-found none = Unknown
-found (some k) = Is k
+-- what `find_kind` answers, in document 01's terms
+abbrev pub saidFound : Found → Said Kind
+saidFound (Is k) = gives k
+saidFound (Unknown code) = unknown code
 
-unfoldable pub kindOf : ℤ → Found
-kindOf z = found (kindAt z)
+-- the kind with this code; a code that is not in the table is 4
+abbrev pub orUnknown : ℤ → Option Kind → Said Kind
+orUnknown code none = unknown code
+orUnknown code (some k) = gives k
 
-abbrev pub isKind : Found → Bool
-isKind (Is k) = true
-isKind Unknown = false
+unfoldable pub kindOf : ℤ → Said Kind
+kindOf code = orUnknown code (kindAt code)
 
 -- the code is one of the fourteen
 unfoldable pub known : ℤ → Bool
-known code = isKind (kindOf code)
+known code = isGiven (kindOf code)

@@ -1,6 +1,7 @@
 -- How long a shape's content is, in words and with the kind's own field, over the kind's flags: document 01's table of kinds.
 use mathlib.Core.Bool.{Bool, true, false, cond, _||_}
-use mathlib.Core.Option.{Option, none, some, Option·map, bind}
+use mathlib.Core.List.{[], _∷_}
+use mathlib.Core.Option.{Option, none, some, Option·map}
 use Prim.Native.Nat.{ℕ, _+_, _*_, _^_}
 use lib.Dec.{eqb, ltb}
 use lib.IntN.{ℤ, pos}
@@ -8,10 +9,13 @@ use Rattle.format.specs.declared.kinds.Kind.{Kind}
 use Rattle.format.specs.declared.lengths.Formula.{Formula}
 use Rattle.format.specs.declared.lengths.Lengths.{Lengths}
 use Rattle.format.specs.declared.lengths.Content.{Content}
-use Rattle.format.specs.declared.lengths.Content.the-variants.{Taken, NotTaken}
+use Rattle.format.specs.declared.lengths.Content.the-variants.{Taken, NotTaken, Unknown}
 use Rattle.format.specs.declared.lengths.Counted.{Counted}
 use Rattle.format.specs.declared.lengths.Counted.the-variants.{Is, Long}
+use Rattle.format.specs.declared.units.Words.{Words}
 use Rattle.format.specs.Kinds.{kindAt}
+use Rattle.format.specs.Order.{first}
+use Rattle.format.specs.Said.{Said, gives, unknown, notTaken, long}
 
 -- what a content holds beside the kind's field: nothing, one point, or parts of points
 pub data Form : Type 0 where
@@ -75,21 +79,33 @@ lengthsFor k form =
 unfoldable pub lengthsOf : Kind → Option Lengths
 lengthsOf k = Option·map (lengthsFor k) (formOf k)
 
-abbrev pub taken : Option Lengths → Content
-taken none = NotTaken
-taken (some l) = Taken l
+-- what `lengths_of` answers, in document 01's terms
+abbrev pub saidContent : Content → Said Lengths
+saidContent (Taken l) = gives l
+saidContent (NotTaken code) = notTaken code
+saidContent (Unknown code) = unknown code
 
--- the formulas of the kind with this code, where it is a taken one
-unfoldable pub contentOf : ℕ → Content
-contentOf n = taken (bind (kindAt (pos n)) lengthsOf)
+-- the formulas of the kind with this code; a code that is not in the table is 4, and a kind that is not taken is 9
+abbrev pub orNotTaken : ℤ → Option Lengths → Said Lengths
+orNotTaken code none = notTaken code
+orNotTaken code (some l) = gives l
 
--- the words as an i32 holds them
-abbrev pub heldWords : ℕ → Counted
-heldWords words = cond (ltb words (2 ^ 31)) (Is (record { 0 = pos words })) Long
+abbrev pub lengthsIn : ℤ → Option Kind → Said Lengths
+lengthsIn code none = unknown code
+lengthsIn code (some k) = orNotTaken code (lengthsOf k)
+
+unfoldable pub contentOf : ℤ → Said Lengths
+contentOf code = lengthsIn code (kindAt code)
+
+-- what `content_words` answers
+abbrev pub saidCounted : Counted → Said Words
+saidCounted (Is w) = gives w
+saidCounted Long = long
 
 -- a formula's words for p parts and n points
 abbrev pub formulaWords : Formula → ℕ → ℕ → ℕ
 formulaWords f p n = f .fixed + 2 * p + f .point * n
 
-unfoldable pub counted : Formula → ℕ → ℕ → Counted
-counted f p n = heldWords (formulaWords f p n)
+-- words that an i32 does not hold are 7
+unfoldable pub counted : Formula → ℕ → ℕ → Said Words
+counted f p n = first ((ltb (formulaWords f p n) (2 ^ 31), long) ∷ []) (gives (record { 0 = pos (formulaWords f p n) }))

@@ -1,4 +1,5 @@
 -- What a call answers, in document 01's terms: a value, or a refusal with its number and what it returns ("What comes back").
+use mathlib.Core.Bool.{Bool, true, false}
 use mathlib.Core.List.{List, [], _∷_}
 use Prim.Native.Nat.{ℕ, _≤_}
 use lib.IntN.{ℤ, pos}
@@ -50,6 +51,11 @@ module _ {A : Type 0} where
   -- 10 Tables: lent tables disagree in length; 0
   abbrev pub tables : Said A
   tables = refuses 10 (pos 0 ∷ [])
+
+-- the answer is a value
+abbrev pub isGiven : {A : Type 0} → Said A → Bool
+isGiven (gives a) = true
+isGiven (refuses n values) = false
 
 -- what a lent buffer, or a state, is after the call: a refusal leaves it as it was
 abbrev pub unlessRefused {ℓ} : {A : Type 0} {B : Type ℓ} → Said A → B → B → B

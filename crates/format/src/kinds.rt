@@ -1,7 +1,7 @@
 // The fourteen kinds of shape in one constant table, and the lookup by code.
 ghost use mathlib.Core.Path.{_≡_};
 ghost use Prim.Native.Nat.{_≤_};
-ghost use Rattle.format.specs.Kinds.{kinds, rowOf, kindOf};
+ghost use Rattle.format.specs.Kinds.{kinds, rowOf, rowAt, saidFound, kindOf};
 
 pub struct Kind {
     pub code: u32,
@@ -10,9 +10,10 @@ pub struct Kind {
     pub parts: bool,
 }
 
+// The kind of a code; or the code, where there is none.
 pub enum Found {
     Is(Kind),
-    Unknown,
+    Unknown(i32),
 }
 
 const KINDS: [Kind; 14] = [
@@ -102,8 +103,8 @@ const KINDS: [Kind; 14] = [
     },
 ];
 
-// The row with this code; 14 where none has it.
-pub fn row_of(code: u32) -> usize
+// The row with this code, which is not negative; 14 where none has it.
+fn search(code: u32) -> usize
     ensures { λ r. ⌜ (r ≡ rowOf code kinds) × (r ≤ 14) ⌝ }
 {
     let mut i = 0;
@@ -117,17 +118,25 @@ pub fn row_of(code: u32) -> usize
     14
 }
 
-// The kind with this code.
-pub fn find_kind(code: i32) -> Found
-    ensures { λ r. ⌜ r ≡ kindOf code ⌝ }
+// The row with this code; 14 where none has it.
+pub fn row_of(code: i32) -> usize
+    ensures { λ r. ⌜ (r ≡ rowAt code) × (r ≤ 14) ⌝ }
 {
     if code < 0 {
-        return Found::Unknown;
+        14
+    } else {
+        search(code as u32)
     }
-    let i = row_of(code as u32);
+}
+
+// The kind with this code.
+pub fn find_kind(code: i32) -> Found
+    ensures { λ r. ⌜ saidFound r ≡ kindOf code ⌝ }
+{
+    let i = row_of(code);
     if i < 14 {
         Found::Is(KINDS[i])
     } else {
-        Found::Unknown
+        Found::Unknown(code)
     }
 }

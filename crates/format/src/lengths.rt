@@ -1,6 +1,6 @@
 // The length of a shape's content in words, for the kinds that are taken: the fixed words and the words for each point.
 ghost use mathlib.Core.Path.{_≡_};
-ghost use Rattle.format.specs.Lengths.{contentOf, counted};
+ghost use Rattle.format.specs.Lengths.{saidContent, contentOf, saidCounted, counted};
 use crate::kinds::row_of;
 use crate::units::Words;
 
@@ -16,9 +16,11 @@ pub struct Lengths {
     pub with: Formula,
 }
 
+// The formulas of a code's kind; or its code, where the kind is not taken, or where there is none.
 pub enum Content {
     Taken(Lengths),
-    NotTaken,
+    NotTaken(i32),
+    Unknown(i32),
 }
 
 // What a formula comes to; long, where an i32 does not hold it.
@@ -63,7 +65,7 @@ const CONTENTS: [Content; 14] = [
             point: 8,
         },
     }),
-    Content::NotTaken,
+    Content::NotTaken(8),
     Content::Taken(Lengths {
         without: Formula {
             fixed: 18,
@@ -94,7 +96,7 @@ const CONTENTS: [Content; 14] = [
             point: 16,
         },
     }),
-    Content::NotTaken,
+    Content::NotTaken(18),
     Content::Taken(Lengths {
         without: Formula {
             fixed: 14,
@@ -125,25 +127,25 @@ const CONTENTS: [Content; 14] = [
             point: 12,
         },
     }),
-    Content::NotTaken,
-    Content::NotTaken,
+    Content::NotTaken(28),
+    Content::NotTaken(31),
 ];
 
-// The formulas of the kind with this code, where it is a taken one.
-pub fn lengths_of(code: u32) -> Content
-    ensures { λ r. ⌜ r ≡ contentOf code ⌝ }
+// The formulas of the kind with this code.
+pub fn lengths_of(code: i32) -> Content
+    ensures { λ r. ⌜ saidContent r ≡ contentOf code ⌝ }
 {
     let i = row_of(code);
     if i < 14 {
         CONTENTS[i]
     } else {
-        Content::NotTaken
+        Content::Unknown(code)
     }
 }
 
 // The words of a content with p parts and n points.
 pub fn content_words(f: Formula, p: u32, n: u32) -> Counted
-    ensures { λ r. ⌜ r ≡ counted f p n ⌝ }
+    ensures { λ r. ⌜ saidCounted r ≡ counted f p n ⌝ }
 {
     let words = (f.fixed as u64) + 2 * (p as u64) + (f.point as u64) * (n as u64);
     if words < 0x8000_0000 {

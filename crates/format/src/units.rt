@@ -1,6 +1,6 @@
 // Lengths in 16-bit words, as a file's own fields have them, and lengths in bytes: two types, and one function each way.
 ghost use mathlib.Core.Path.{_≡_};
-ghost use Rattle.format.specs.Units.{inBytes, inWords};
+ghost use Rattle.format.specs.Units.{inBytes, saidWords, inWords};
 
 // A length in 16-bit words.
 #[repr(C)]
@@ -23,7 +23,7 @@ pub fn to_bytes(w: Words) -> Bytes
 }
 
 pub fn to_words(b: Bytes) -> InWords
-    ensures { λ r. ⌜ r ≡ inWords b ⌝ }
+    ensures { λ r. ⌜ saidWords r ≡ inWords b ⌝ }
 {
     let n = b.0;
     let half = n >> 1;

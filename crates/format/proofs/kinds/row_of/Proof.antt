@@ -1,53 +1,34 @@
--- `format::kinds::row_of` meets its contract: the rows from i on say how many there are still to pass.
-use mathlib.Core.Path.{_≡_}
-use Prim.Native.Nat.{_+_, _-_, _≤_}
-use native.Mathlib.Nat.{zero-add}
+-- `format::kinds::row_of` meets its contract: a negative code is none of the table, and the row of any other is the search's.
+use mathlib.Core.Path.{_≡_, ap, _∙_}
+use mathlib.Core.Bool.{true, false}
+use Prim.Native.Nat.{_≤_}
 use native.Mathlib.Omega.{arith}
-use lib.ListN.{drop}
+use lib.IntN.{ℤ, natAbs}
+use mir.Syntax.{w32}
+use mir.ValLaws.{toZ-ofZ}
+use borrow.Author.Needs.{needs}
 use Rattle.format.specs.Kinds.{kinds, rowOf}
-use Rattle.format.proofs.KindLaws.{row-here, row-on}
+use Rattle.format.proofs.KindLaws.{row-neg, row-non}
+use Rattle.format.proofs.SignLaws.{sign-test, casts}
 use Rattle.format.proofs.kinds.row_of.Statement.{statement}
 use Rattle.format.proofs.kinds.row_of.Tie as tie
 
-abbrev Inv-loop : tie.InvT-loop
-Inv-loop code i₀ i = (i ≤ 14) × (i + rowOf code (drop i kinds) ≡ rowOf code kinds)
-
-abbrev μ-loop : tie.MeasureT-loop
-μ-loop code i₀ i = 14 - i
-
-loop-holds : tie.Need-loop-holds Inv-loop μ-loop
-loop-holds c = (omega arith, zero-add _)
-
-returns : tie.Need-returns Inv-loop μ-loop
-unfolding kinds
+returns : tie.Need-returns
 returns c =
-    let l = c .before .before .before .before in
-    let e : rowOf (l .before .args .code) (drop (l .loop .i) kinds) ≡ 0 = row-here (l .before .args .code) kinds _ (l .loop .i) (omega arith) (c .if1 .taken) in
-    (omega arith, omega arith)
+    let a = c .before in
+    (row-neg (a .args .code) (sign-test w32 (a .args .code) (a .fits .code) true (c .if1 .taken)), omega arith)
 
-loop-again : tie.Need-loop-again Inv-loop μ-loop
-unfolding kinds
-loop-again c =
-    let l = c .before .before .before .before in
-    let e = row-on (l .before .args .code) kinds _ (l .loop .i) (omega arith) (c .if1 .left) in
-    (omega arith, omega (arith, e))
+cast-search : tie.Need-cast-search
+cast-search c = casts (c .before .args .code) (c .before .fits .code) (c .if1 .left)
 
-returns-2 : tie.Need-returns-2 Inv-loop μ-loop
-unfolding kinds rowOf
+returns-2 : tie.Need-returns-2
 returns-2 c =
-    let z : c .before .loop .i ≡ 14 = omega arith in
-    let e = rw z at (c .before .loop .inv .1) in
-    (e, omega arith)
+    let a = c .before .before in (
+      c .search .ensures .0
+      ∙ (ap (λ (z : ℤ). rowOf (natAbs z) kinds) (toZ-ofZ w32 (a .args .code) (a .fits .code))
+      ∙ row-non (a .args .code) (sign-test w32 (a .args .code) (a .fits .code) false (c .before .if1 .left))),
+      c .search .ensures .1,
+    )
 
 pub row-of-spec : {M : Type 1} → statement M
-row-of-spec =
-    tie.close
-    (tie.spec
-    Inv-loop
-    μ-loop
-    loop-holds
-    (λ c. omega arith) (λ c. omega arith)
-    returns
-    (λ c. omega arith) (λ c. omega arith)
-    loop-again
-    returns-2)
+row-of-spec = tie.close (tie.spec cast-search (λ c κs. search needs) returns returns-2)
