@@ -1,5 +1,5 @@
 -- Laws of content lengths and of a kind's form. The constant table beside the kinds holds each kind's formulas: one computed test over the whole table.
-use mathlib.Core.Path.{_≡_, refl, sym, ap, _∙_}
+use mathlib.Core.Path.{_≡_, refl, sym, ap, _∙_, subst}
 use mathlib.Core.Bool.{Bool, true, false, cond, _&&_, _||_, not}
 use mathlib.Core.List.{List, [], _∷_, map}
 use mathlib.Core.Option.{Option, none, some, Option·map}
@@ -10,6 +10,8 @@ use lib.Dec.{eqb, ltb}
 use lib.IntN.{ℤ, pos}
 use lib.ListN.{length, getD, getElem?}
 use lib.Pow.{pow-pos}
+use mir.Syntax.{w32}
+use mir.Val.{SFits, ofZ}
 use borrow.Author.Tests.{ltb-true, ltb-false}
 use Rattle.format.specs.declared.kinds.Kind.{Kind}
 use Rattle.format.specs.declared.lengths.Content.{Content}
@@ -22,7 +24,9 @@ use Rattle.format.specs.declared.units.Words.{Words}
 use Rattle.format.specs.Kinds.{kind, kinds, rowOf, kindAt}
 use Rattle.format.specs.Lengths.{Form, nothing, onePoint, parts, formOf, fixedWords, pointWords, contentWords, lengthsFor, lengthsOf, saidContent, orNotTaken, lengthsIn, contentOf, formulaWords, saidCounted, counted}
 use Rattle.format.specs.Said.{Said, gives, unknown, notTaken, long}
+use Rattle.format.specs.Units.{sameInt}
 use Rattle.format.proofs.KindLaws.{code-is, of-table}
+use Rattle.format.proofs.UnitLaws.{same-no, by-bits}
 
 abbrev row : ℕ → ℕ → ℕ → ℕ → Content
 row f p fm pm = Taken (record { without = record { fixed = f; point = p }; with = record { fixed = fm; point = pm } })
@@ -125,6 +129,22 @@ module _ (k : Kind) where
         go none q = let z : _≡_ {A = ℕ} 4 9 = cc in omega arith
         go (some x) q = let z : _≡_ {A = ℕ} 0 1 = cc in omega arith
 
+-- and of a code whose kind is not looked up apart
+module _ (z : ℤ) (c : Content) (f : saidContent c ≡ contentOf z) where
+  pub told-unknown : (code : ℤ) → c ≡ Unknown code → kindAt z ≡ none
+  told-unknown code g = go (kindAt z) refl
+    where
+      go : (o : Option Kind) → kindAt z ≡ o → o ≡ none
+      go none e = refl
+      go (some k) e = absurd (content-known k z e c f code g)
+
+  pub told-kind : (saidContent c ≡ unknown z → ⊥) → (k : Kind) × (kindAt z ≡ some k)
+  told-kind not = go (kindAt z) refl
+    where
+      go : (o : Option Kind) → kindAt z ≡ o → (k : Kind) × (o ≡ some k)
+      go none e = absurd (not (f ∙ sym (content-none-at z e)))
+      go (some k) e = (k, refl)
+
 -- ---- what a kind's form says of its code and its parts
 
 abbrev pub Flags : Kind → Form → Type 0
@@ -182,6 +202,19 @@ module _ (f : Formula) (p n : ℕ) (c : Counted) (e : saidCounted c ≡ counted 
       by : (b : Bool) → ltb (formulaWords f p n) (2 ^ 31) ≡ b → gives w ≡ cond b (gives (record { 0 = pos (formulaWords f p n) })) long → (formulaWords f p n < 2 ^ 31) × (w ≡ record { 0 = pos (formulaWords f p n) })
       by true t q = (ltb-true _ _ t, cc)
       by false t q = absurd (let z : _≡_ {A = ℕ} 0 1 = cc in omega arith)
+
+-- so whether it comes to some words is settled by the counting
+module _ (f : Formula) (p n : ℕ) (words : Words) (h : SFits w32 (words .0)) (c : Counted) (e : saidCounted c ≡ counted f p n) where
+  pub comes-to : (w : Words) → c ≡ Is w → eqb (ofZ w32 (w .0)) (ofZ w32 (words .0)) ≡ sameInt (words .0) (pos (formulaWords f p n))
+  comes-to w g =
+      let k = counted-held f p n c e w g in
+      ap (λ (x : Words). eqb (ofZ w32 (x .0)) (ofZ w32 (words .0))) (k .1) ∙ by-bits w32 (words .0) (pos (formulaWords f p n)) h (record { sfits = k .0 })
+
+  pub too-long : c ≡ Long → false ≡ sameInt (words .0) (pos (formulaWords f p n))
+  too-long g = sym (same-no (words .0) (pos (formulaWords f p n)) (λ q. over (words .0) q h (counted-long f p n c e g)))
+    where
+      over : (z : ℤ) → z ≡ pos (formulaWords f p n) → SFits w32 z → 2 ^ 31 ≤ formulaWords f p n → ⊥
+      over z q s l = omega (arith, subst (SFits w32) q s .sfits)
 
 pub small-product : {a n : ℕ} → a < 2 ^ 16 → n < 2 ^ 32 → a * n < 2 ^ 48
 small-product {a} {n} p q = lt-of-le-of-lt (mul-le-mul-left a (le-of-lt q)) (mul-lt-mul-of-pos-right p (pow-pos 32))

@@ -122,11 +122,7 @@ fn search(code: u32) -> usize
 pub fn row_of(code: i32) -> usize
     ensures { λ r. ⌜ (r ≡ rowAt code) × (r ≤ 14) ⌝ }
 {
-    if code < 0 {
-        14
-    } else {
-        search(code as u32)
-    }
+    if code < 0 { 14 } else { search(code as u32) }
 }
 
 // The kind with this code.

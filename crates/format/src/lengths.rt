@@ -1,6 +1,8 @@
 // The length of a shape's content in words, for the kinds that are taken: the fixed words and the words for each point.
 ghost use mathlib.Core.Path.{_≡_};
-ghost use Rattle.format.specs.Lengths.{saidContent, contentOf, saidCounted, counted};
+ghost use lib.IntN.{pos};
+ghost use Rattle.format.specs.Lengths.{saidContent, contentOf, formulaWords, saidCounted, counted};
+ghost use Rattle.format.specs.Units.{sameInt};
 use crate::kinds::row_of;
 use crate::units::Words;
 
@@ -152,5 +154,15 @@ pub fn content_words(f: Formula, p: u32, n: u32) -> Counted
         Counted::Is(Words(words as i32))
     } else {
         Counted::Long
+    }
+}
+
+// Whether a content with p parts and n points has so many words.
+pub fn comes_to(f: Formula, p: u32, n: u32, words: Words) -> bool
+    ensures { λ r. ⌜ r ≡ sameInt (words .0) (pos (formulaWords f p n)) ⌝ }
+{
+    match content_words(f, p, n) {
+        Counted::Is(w) => w.0 == words.0,
+        Counted::Long => false,
     }
 }

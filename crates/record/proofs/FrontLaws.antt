@@ -14,21 +14,18 @@ use mir.Val.{Fits, SFits, toZ, ofZ}
 use mir.ValLaws.{toZ-ofZ}
 use borrow.Author.Tests.{le-leb, lt-leb}
 use Rattle.format.specs.declared.kinds.Kind.{Kind}
-use Rattle.format.specs.declared.kinds.Found.{Found}
-use Rattle.format.specs.declared.kinds.Found.the-variants as FoundIs
 use Rattle.format.specs.declared.lengths.Content.{Content}
 use Rattle.format.specs.declared.lengths.Content.the-variants as ContentIs
 use Rattle.format.specs.declared.lengths.Lengths.{Lengths}
 use Rattle.format.specs.declared.units.Bytes.{Bytes}
-use Rattle.format.specs.Kinds.{kindOf, isKind, known, kindAt}
-use Rattle.format.specs.Lengths.{formOf, lengthsOf, contentOf}
+use Rattle.format.specs.Kinds.{known, kindAt}
+use Rattle.format.specs.Lengths.{formOf, lengthsOf, saidContent, contentOf}
 use Rattle.format.specs.Order.{first}
 use Rattle.format.specs.Said.{Said, notTaken}
 use Rattle.format.specs.Shapes.{there}
 use Rattle.format.specs.Units.{sameInt, inI32}
-use Rattle.format.proofs.Equations as Equations
-use Rattle.format.proofs.KindLaws.{kind-found, code-is}
-use Rattle.format.proofs.LengthLaws.{lengths-form, content-none, content-some}
+use Rattle.format.proofs.KindLaws.{known-there, known-some}
+use Rattle.format.proofs.LengthLaws.{lengths-form, content-none, content-some, told-unknown, told-kind}
 use Rattle.format.proofs.OrderLaws.{first-append}
 use Rattle.record.specs.declared.Wanted.{Wanted}
 use Rattle.record.specs.declared.Wanted.the-variants as Wants
@@ -41,34 +38,32 @@ use Rattle.record.specs.Steps.{Passes, Refuses, Held, Fronts}
 
 -- ---- the lookups
 
-pub known-is : (z : ℤ) (r r′ : Found) → r ≡ kindOf z → r ≡ r′ → known z ≡ isKind r′
-known-is z r r′ e f = Equations.known-is z ∙ ap isKind (sym e ∙ f)
-
-pub kind-at : (z : ℤ) (r : Found) (k : Kind) → r ≡ kindOf z → r ≡ FoundIs.Is k → kindAt z ≡ some k
-kind-at z r k e f = kind-found z k (sym e ∙ f)
-
--- a known code is not negative
-pub known-casts : (z : ℤ) (k : Kind) → kindAt z ≡ some k → SFits w32 z → T (nonNeg (toZ w32 (ofZ w32 z))) × Fits w32 (natAbs (toZ w32 (ofZ w32 z)))
-known-casts z k e f = rw (toZ-ofZ w32 z f) (by z e f)
-  where
-    by : (z : ℤ) → kindAt z ≡ some k → SFits w32 z → T (nonNeg z) × Fits w32 (natAbs z)
-    by (pos n) e f = (tt, omega arith)
-    by (negsuc n) e f = let q : _≡_ {A = ℕ} 0 1 = cc in absurd (omega arith)
-
-module _ (z : ℤ) (k : Kind) (e : kindAt z ≡ some k) where
-  content-here : contentOf (natAbs z) ≡ contentOf (k .code)
-  content-here = ap (λ (x : ℤ). contentOf (natAbs x)) (code-is z k e)
-
+module _ (z : ℤ) (k : Kind) (e : kindAt z ≡ some k) (c : Content) (f : saidContent c ≡ contentOf z) where
   taken-is : (b : Bool) → there (formOf k) ≡ b → isTaken z ≡ b
-  taken-is b f = rw e f
+  taken-is b g = rw e g
 
-  pub taken-no : (c : Content) → c ≡ contentOf (natAbs z) → c ≡ ContentIs.NotTaken → isTaken z ≡ false
-  taken-no c f g = taken-is false (ap there (content-none k z e (sym (f ∙ content-here) ∙ g)))
+  pub taken-no : (code : ℤ) → c ≡ ContentIs.NotTaken code → isTaken z ≡ false
+  taken-no code g = taken-is false (ap there (content-none k z e c f code g))
 
-  pub taken-yes : (c : Content) (l : Lengths) → c ≡ contentOf (natAbs z) → c ≡ ContentIs.Taken l → (isTaken z ≡ true) × (lengthsOf k ≡ some l)
-  taken-yes c l f g =
-      let r = content-some k z e l (sym (f ∙ content-here) ∙ g) in
+  pub taken-yes : (l : Lengths) → c ≡ ContentIs.Taken l → (isTaken z ≡ true) × (lengthsOf k ≡ some l)
+  taken-yes l g =
+      let r = content-some k z e c f l g in
       (taken-is true (ap there (lengths-form k l r .1)), r)
+
+-- of a code whose kind is not looked up apart: whether it is known, and taken
+module _ (z : ℤ) (c : Content) (f : saidContent c ≡ contentOf z) where
+  pub told-none : (code : ℤ) → c ≡ ContentIs.Unknown code → known z ≡ false
+  told-none code g = known-there z ∙ ap there (told-unknown z c f code g)
+
+  pub told-not : (code : ℤ) → c ≡ ContentIs.NotTaken code → (known z ≡ true) × (isTaken z ≡ false)
+  told-not code g =
+      let k = told-kind z c f (λ q. let n : _≡_ {A = ℕ} 9 4 = cc in omega arith) in
+      (known-some z (k .0) (k .1), taken-no z (k .0) (k .1) c f code g)
+
+  pub told-taken : (l : Lengths) → c ≡ ContentIs.Taken l → (known z ≡ true) × (isTaken z ≡ true)
+  told-taken l g =
+      let k = told-kind z c f (λ q. let n : _≡_ {A = ℕ} 0 1 = cc in omega arith) in
+      (known-some z (k .0) (k .1), taken-yes z (k .0) (k .1) c f l g .0)
 
 -- ---- codes by their bits
 

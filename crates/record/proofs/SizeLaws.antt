@@ -12,14 +12,14 @@ use borrow.Author.Tests.{lt-ltb, le-ltb, ltb-true, ltb-false, eqb-true, eqb-fals
 use Rattle.format.specs.declared.kinds.Kind.{Kind}
 use Rattle.format.specs.declared.lengths.Formula.{Formula}
 use Rattle.format.specs.declared.lengths.Lengths.{Lengths}
-use Rattle.format.specs.declared.lengths.Counted.the-variants.{Is, Long}
 use Rattle.format.specs.declared.units.Bytes.{Bytes}
+use Rattle.format.specs.declared.units.InWords.{InWords}
+use Rattle.format.specs.declared.units.InWords.the-variants.{Is, Not}
 use Rattle.format.specs.declared.units.Words.{Words}
-use Rattle.format.specs.Lengths.{parts, contentWords, lengthsFor, counted, formulaWords}
-use Rattle.format.specs.Units.{sameInt, inI32, inBytes}
+use Rattle.format.specs.Lengths.{parts, contentWords, lengthsFor, formulaWords}
+use Rattle.format.specs.Units.{sameInt, inI32, saidWords, inWords}
 use Rattle.format.proofs.Equations.{words-are}
-use Rattle.format.proofs.LengthLaws.{counted-long, counted-held}
-use Rattle.format.proofs.UnitLaws.{same-yes, same-no, same-bits}
+use Rattle.format.proofs.UnitLaws.{same-no, words-doubled, no-words, doubled-same}
 use Rattle.record.specs.Reading.{isWords, hasM, sizeRight}
 use Rattle.record.specs.Steps.{Held, two}
 
@@ -73,23 +73,17 @@ module _ (size : Bytes) (h : Held size) where
       same-no (size .0) (pos (2 * w))
       (λ e. let f : 2 * w < 2 ^ 32 = below (2 * w) (subst (λ (z : ℤ). inI32 (z -ℤ pos 4) ≡ true) e h) in omega arith)
 
-  pub long-size : (f : Formula) (p n : ℕ) → Long ≡ counted f p n → false ≡ isWords size (formulaWords f p n)
-  long-size f p n e = sym (not-long (formulaWords f p n) (counted-long f p n e))
+  -- a size that is no words is no formula's
+  pub not-words : (r : InWords) → saidWords r ≡ inWords size → r ≡ Not → (w : ℕ) → false ≡ isWords size w
+  not-words r e g w = sym (by (ltb w (2 ^ 31)) refl)
+    where
+      by : (b : Bool) → ltb w (2 ^ 31) ≡ b → isWords size w ≡ false
+      by true t = same-no (size .0) (pos (2 * w)) (no-words size r e g w (ltb-true w (2 ^ 31) t))
+      by false t = not-long w (ltb-false w (2 ^ 31) t)
 
--- a test of two numbers, from the test of their bits
-bits-same : (x y : ℤ) → SFits w64 x → SFits w64 y → eqb (ofZ w64 y) (ofZ w64 x) ≡ sameInt x y
-bits-same x y f g = by (eqb (ofZ w64 y) (ofZ w64 x)) refl
-  where
-    by : (b : Bool) → eqb (ofZ w64 y) (ofZ w64 x) ≡ b → b ≡ sameInt x y
-    by true t = sym (same-yes x y (same-bits x y f g (sym (eqb-true (ofZ w64 y) (ofZ w64 x) t))))
-    by false t = sym (same-no x y (λ e. eqb-false (ofZ w64 y) (ofZ w64 x) t (ap (ofZ w64) (sym e))))
-
--- the code compares the bits of the bytes that the words come to
-pub words-size : (size : Bytes) (f : Formula) (p n : ℕ) (w : Words) (b : Bytes) → SFits w64 (size .0) → Is w ≡ counted f p n → b ≡ inBytes w → eqb (ofZ w64 (b .0)) (ofZ w64 (size .0)) ≡ isWords size (formulaWords f p n)
-words-size size f p n w b s e g =
-    let h = counted-held f p n w e in
-    let d : b .0 ≡ pos (2 * formulaWords f p n) = ap (λ (x : Bytes). x .0) g ∙ (ap (λ (x : Words). x .0 +ℤ x .0) (h .1) ∙ ap pos (omega arith)) in
-    ap (λ (z : ℤ). eqb (ofZ w64 z) (ofZ w64 (size .0))) d ∙ bits-same (size .0) (pos (2 * formulaWords f p n)) s (record { sfits = omega (arith, h .0) })
+-- and one that is some words is so many bytes where these are so many words
+pub words-size : (size : Bytes) (r : InWords) → saidWords r ≡ inWords size → (v : Words) → r ≡ Is v → (w : ℕ) → sameInt (v .0) (pos w) ≡ isWords size w
+words-size size r e v g w = doubled-same (v .0) w ∙ ap (λ (z : ℤ). sameInt z (pos (2 * w))) (words-doubled size r e v g)
 
 -- ---- the two formulas of a kind with parts
 

@@ -24,16 +24,16 @@ pub enum Front {
 fn judge_code(code: i32) -> Judged
     ensures { λ r. ⌜ Judges (wantedTests (Wanted.Kind code)) r ⌝ }
 {
-    let Found::Is(_) = format::kinds::find_kind(code) else {
-        return Judged::Refused(RecordAnswer::Unknown(code));
-    };
-    let Content::Taken(_) = format::lengths::lengths_of(code as u32) else {
-        return Judged::Refused(RecordAnswer::NotTaken(code));
-    };
-    if code == 0 {
-        return Judged::Refused(RecordAnswer::NotTaken(code));
+    match format::lengths::lengths_of(code) {
+        Content::Unknown(_) => Judged::Refused(RecordAnswer::Unknown(code)),
+        Content::NotTaken(_) => Judged::Refused(RecordAnswer::NotTaken(code)),
+        Content::Taken(_) => {
+            if code == 0 {
+                return Judged::Refused(RecordAnswer::NotTaken(code));
+            }
+            Judged::On
+        }
     }
-    Judged::On
 }
 
 fn judge_wanted(wanted: Wanted) -> Judged
@@ -82,9 +82,11 @@ fn judge_found(s: &[u8], size: Bytes, wanted: Wanted) -> Front
     if let Judged::Refused(r) = judge_match(wanted, code) {
         return Front::Refused(r);
     }
-    match format::lengths::lengths_of(code as u32) {
-        Content::NotTaken => Front::Refused(RecordAnswer::NotTaken(code)),
+    match format::lengths::lengths_of(code) {
         Content::Taken(lengths) => Front::On(kind, lengths),
+        Content::NotTaken(_) => Front::Refused(RecordAnswer::NotTaken(code)),
+        // which a kind that was found is not
+        Content::Unknown(_) => Front::Refused(RecordAnswer::Unknown(code)),
     }
 }
 

@@ -4,10 +4,10 @@ ghost use Rattle.format.specs.Lengths.{parts, lengthsFor, formulaWords};
 ghost use Rattle.record.specs.Reading.{isWords};
 ghost use Rattle.record.specs.Steps.{Held, two, Sizes};
 use format::kinds::Kind;
-use format::lengths::Counted;
 use format::lengths::Formula;
 use format::lengths::Lengths;
 use format::units::Bytes;
+use format::units::InWords;
 
 // Which of the two formulas of a kind with parts a size is.
 pub enum Sized {
@@ -21,12 +21,9 @@ pub(crate) fn has_words(size: Bytes, f: Formula, p: u32, n: u32) -> bool
     requires { ⌜ Held size ⌝ }
     ensures { λ r. ⌜ r ≡ isWords size (formulaWords f p n) ⌝ }
 {
-    match format::lengths::content_words(f, p, n) {
-        Counted::Long => false,
-        Counted::Is(words) => {
-            let bytes = format::units::to_bytes(words);
-            bytes.0 == size.0
-        }
+    match format::units::to_words(size) {
+        InWords::Is(words) => format::lengths::comes_to(f, p, n, words),
+        InWords::Not => false,
     }
 }
 

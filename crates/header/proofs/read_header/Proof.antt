@@ -10,9 +10,10 @@ use mir.Syntax.{w32}
 use mir.Val.{toZ, ofZ}
 use borrow.Author.Needs.{needs}
 use borrow.Author.Tests.{le-leb, lt-leb}
-use Rattle.format.specs.Kinds.{known, isKind, kindOf}
+use Rattle.format.specs.declared.kinds.Found.{Found}
+use Rattle.format.specs.Kinds.{known, saidFound, kindOf}
 use Rattle.format.specs.Numbers.{beI32, leI32}
-use Rattle.format.specs.Said.{otherCode, unknown}
+use Rattle.format.specs.Said.{otherCode, unknown, isGiven}
 use Rattle.format.proofs.KindLaws.{known-found}
 use Rattle.format.proofs.SignLaws.{back, sign-test, nonNeg-yes, nonNeg-no}
 use Rattle.header.specs.Reading.{is9994, headerOf}
@@ -62,10 +63,10 @@ words-are c = ap nonNeg (sym (c .be-i32-at2 .ensures))
 words-sign : (c : tie.After-be-i32-at2) (b : Bool) → ltZ (toZ w32 (ofZ w32 (c .be-i32-at2 .result))) (pos 0) ≡ b → ltZ (c .be-i32-at2 .result) (pos 0) ≡ b
 words-sign c b e = sign-test w32 (c .be-i32-at2 .result) (record { sfits = c .be-i32-at2 .ok }) b e
 
-kind-is : (c : tie.After-find-kind) → known (leI32 32 (s8 c)) ≡ isKind (c .find-kind .result)
-kind-is c =
+kind-is : (c : tie.After-find-kind) (f : Found) → c .find-kind .result ≡ f → known (leI32 32 (s8 c)) ≡ isGiven (saidFound f)
+kind-is c f e =
     let r = c .before .le-i32-at2 in
-    known-found _ _ (c .find-kind .ensures ∙ ap kindOf (back w32 (r .result) (r .ok) ∙ r .ensures))
+    known-found _ _ (c .find-kind .ensures ∙ ap kindOf (back w32 (r .result) (r .ok) ∙ r .ensures)) f e
 
 -- ---- past each test
 
@@ -95,7 +96,7 @@ at7 c = past (s7 c) 6 (at6 (c .before .before)) (le-leb 36 _ (c .if7 .left))
 at8 : (c : tie.After-enum-told) → headerOf (s9 c) ≡ left 8 (s9 c)
 at8 c =
     let f = c .before .before in
-    past (s9 c) 7 (at7 (f .before .before)) (kind-is f ∙ ap isKind (c .enum-told .given .1))
+    past (s9 c) 7 (at7 (f .before .before)) (kind-is f _ (c .enum-told .given .1))
 
 -- ---- each answer
 
@@ -130,7 +131,7 @@ returns-8 c =
     let f = c .before .before in
     let r = f .before .le-i32-at2 in
     ap unknown (back w32 (r .result) (r .ok) ∙ r .ensures)
-    ∙ refused (s8 f) 7 (at7 (f .before .before)) (kind-is f ∙ ap isKind (c .enum-told2 .given .1))
+    ∙ refused (s8 f) 7 (at7 (f .before .before)) (kind-is f _ (c .enum-told2 .given .1))
 
 returns-9 : tie.Need-returns-9
 returns-9 c = cut (s9 (c .before)) (at8 (c .before)) (omega arith) (c .if8 .taken)

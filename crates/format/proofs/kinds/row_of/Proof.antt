@@ -25,8 +25,8 @@ returns-2 : tie.Need-returns-2
 returns-2 c =
     let a = c .before .before in (
       c .search .ensures .0
-      ∙ (ap (λ (z : ℤ). rowOf (natAbs z) kinds) (toZ-ofZ w32 (a .args .code) (a .fits .code))
-      ∙ row-non (a .args .code) (sign-test w32 (a .args .code) (a .fits .code) false (c .before .if1 .left))),
+          ∙ (ap (λ (z : ℤ). rowOf (natAbs z) kinds) (toZ-ofZ w32 (a .args .code) (a .fits .code))
+          ∙ row-non (a .args .code) (sign-test w32 (a .args .code) (a .fits .code) false (c .before .if1 .left))),
       c .search .ensures .1,
     )
 

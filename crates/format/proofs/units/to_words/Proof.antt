@@ -59,7 +59,7 @@ cast-t6 c = rw (held _ (fits64 (c .before .before .before .before))) (record { s
 returns-4 : tie.Need-returns-4
 returns-4 c =
     let a = c .before .before .before .before in
-    let e : half a +ℤ half a ≡ a .args .b .0 = same-bits _ _ (twice (c .before)) (fits64 a) (sym (bits (c .before)) ∙ c .if3 .left) in
+    let e : half a +ℤ half a ≡ a .args .b .0 = same-bits w64 _ _ (twice (c .before)) (fits64 a) (sym (bits (c .before)) ∙ c .if3 .left) in
     rw (held _ (fits64 a), toZ-ofZ w32 (half a) (record { sfits = small (c .before) })) (is-half (a .args .b) (small (c .before)) e)
 
 pub to-words-spec : {M : Type 1} → statement M

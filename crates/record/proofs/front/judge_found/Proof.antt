@@ -2,19 +2,21 @@
 use mathlib.Core.Path.{_≡_, ap, _∙_, subst}
 use mathlib.Core.Bool.{true}
 use mathlib.Core.Option.{some}
-use lib.IntN.{ℤ, natAbs}
+use lib.IntN.{ℤ}
 use mir.Syntax.{w32, w64}
 use mir.Val.{SFits, toZ, ofZ}
 use mir.ValLaws.{toZ-ofZ}
 use borrow.Author.Needs.{needs}
-use Rattle.format.specs.Kinds.{kindOf, known, kindAt}
-use Rattle.format.specs.Lengths.{contentOf}
+use Rattle.format.specs.Kinds.{saidFound, kindOf, known, kindAt}
+use Rattle.format.specs.Lengths.{saidContent, contentOf}
+use Rattle.format.proofs.KindLaws.{known-found, kind-found}
+use Rattle.format.proofs.LengthLaws.{content-known}
 use Rattle.format.proofs.SignLaws.{back}
 use Rattle.record.specs.declared.front.Judged.{Judged}
 use Rattle.record.specs.declared.front.Judged.the-variants as JudgedIs
 use Rattle.record.specs.Reading.{codeIn, mismatchTests}
 use Rattle.record.specs.Steps.{Judges, Held}
-use Rattle.record.proofs.FrontLaws.{known-is, kind-at, known-casts, taken-no, taken-yes, cut, found-unknown, size-left, found-other, found-not, found-well}
+use Rattle.record.proofs.FrontLaws.{taken-no, taken-yes, cut, found-unknown, size-left, found-other, found-not, found-well}
 use Rattle.record.proofs.SizeLaws.{too-low, too-high, held}
 use Rattle.record.proofs.front.judge_found.Statement.{statement}
 use Rattle.record.proofs.front.judge_found.Tie as tie
@@ -41,14 +43,14 @@ a5 c = a4 (c .before .before .before)
 code-back : (c : tie.After-le-i32-at) → toZ w32 (ofZ w32 (c .le-i32-at .result)) ≡ codeIn (a1 c .args .s .now)
 code-back c = back w32 (c .le-i32-at .result) (c .le-i32-at .ok) ∙ c .le-i32-at .ensures
 
-kind-found : (c : tie.After-find-kind) → c .find-kind .result ≡ kindOf (codeIn (a1 (c .before) .args .s .now))
-kind-found c = c .find-kind .ensures ∙ ap kindOf (code-back (c .before))
+looked : (c : tie.After-find-kind) → saidFound (c .find-kind .result) ≡ kindOf (codeIn (a1 (c .before) .args .s .now))
+looked c = c .find-kind .ensures ∙ ap kindOf (code-back (c .before))
 
 is-known : (c : tie.After-known-told) → known (codeIn (a2 c .args .s .now)) ≡ true
-is-known c = known-is _ _ _ (kind-found (c .before .before .before)) (c .before .kind .given .1)
+is-known c = known-found _ _ (looked (c .before .before .before)) _ (c .before .kind .given .1)
 
 kind-here : (c : tie.After-known-told) → kindAt (codeIn (a2 c .args .s .now)) ≡ some (c .before .kind .given .0 .0)
-kind-here c = kind-at _ _ _ (kind-found (c .before .before .before)) (c .before .kind .given .1)
+kind-here c = kind-found _ _ (looked (c .before .before .before)) _ (c .before .kind .given .1)
 
 -- the size, which the code tests by its bits
 size-fits : (c : tie.Start) → SFits w64 (c .args .size .0)
@@ -67,8 +69,8 @@ judged c r e =
     subst (λ (x : Judged). Judges (mismatchTests (a4 c .args .wanted) (codeIn (a4 c .args .s .now))) x) e
     (subst (λ (z : ℤ). Judges (mismatchTests (a4 c .args .wanted) z) (c .judge-match .result)) (code-back (c .before .before .before .before .before .before .before .before)) (c .judge-match .ensures))
 
-content-found : (c : tie.After-lengths-of) → c .lengths-of .result ≡ contentOf (natAbs (codeIn (a5 c .args .s .now)))
-content-found c = c .lengths-of .ensures ∙ ap (λ (z : ℤ). contentOf (natAbs z)) (code-back (c .before .before .before .before .before .before .before .before .before .before .before))
+content-found : (c : tie.After-lengths-of) → saidContent (c .lengths-of .result) ≡ contentOf (codeIn (a5 c .args .s .now))
+content-found c = c .lengths-of .ensures ∙ ap contentOf (code-back (c .before .before .before .before .before .before .before .before .before .before .before))
 
 returns : tie.Need-returns
 returns c =
@@ -80,7 +82,7 @@ returns-2 c =
     let k = c .before .before in
     let s = a1 (k .before) in
     rw (code-back (k .before))
-    (found-unknown (s .args .wanted) (s .args .size) (s .args .s .now) (k .before .before .if1 .left) (known-is _ _ _ (kind-found k) (c .enum-told .given .1)))
+    (found-unknown (s .args .wanted) (s .args .size) (s .args .s .now) (k .before .before .if1 .left) (known-found _ _ (looked k) _ (c .enum-told .given .1)))
 
 returns-3 : tie.Need-returns-3
 returns-3 c =
@@ -104,14 +106,21 @@ returns-5 c =
     found-other (s .args .wanted) (s .args .size) (s .args .s .now) (k .before .before .before .before .before .if1 .left) (is-known k) (is-held (j .before)) _
     (judged j (JudgedIs.Refused (c .before .r .given .0 .0)) (c .before .r .given .1))
 
-cast-lengths-of : tie.Need-cast-lengths-of
-cast-lengths-of c =
-    let k = c .before .before .before .before .before .before in
-    let r = k .before .before .before .before .le-i32-at in
-    known-casts (r .result) _ (ap kindAt (r .ensures) ∙ kind-here k) (record { sfits = r .ok })
-
 returns-6 : tie.Need-returns-6
 returns-6 c =
+    let l = c .before .before .before in
+    let j = l .before .before .before in
+    let k = j .before .before .before .before in
+    let s = a4 j in
+    let t = taken-yes (codeIn (s .args .s .now)) _ (kind-here k) _ (content-found l) _ (c .before .lengths .given .1) in (
+      found-well (s .args .wanted) (s .args .size) (s .args .s .now) (k .before .before .before .before .before .if1 .left) (is-known k) (is-held (j .before))
+          (judged j JudgedIs.On (l .before .enum-told2 .given .1))
+          (t .0),
+      record { long = k .before .before .before .before .before .if1 .left; held = is-held (j .before); kind-is = kind-here k; lengths-are = t .1 },
+    )
+
+returns-7 : tie.Need-returns-7
+returns-7 c =
     let l = c .before .before in
     let j = l .before .before .before in
     let k = j .before .before .before .before in
@@ -119,20 +128,14 @@ returns-6 c =
     rw (code-back (k .before .before .before .before))
     (found-not (s .args .wanted) (s .args .size) (s .args .s .now) (k .before .before .before .before .before .if1 .left) (is-known k) (is-held (j .before))
     (judged j JudgedIs.On (l .before .enum-told2 .given .1))
-    (taken-no (codeIn (s .args .s .now)) _ (kind-here k) _ (content-found l) (c .enum-told3 .given .1)))
+    (taken-no (codeIn (s .args .s .now)) _ (kind-here k) _ (content-found l) _ (c .enum-told3 .given .1)))
 
-returns-7 : tie.Need-returns-7
-returns-7 c =
-    let l = c .before .before .before in
-    let j = l .before .before .before in
-    let k = j .before .before .before .before in
-    let s = a4 j in
-    let t = taken-yes (codeIn (s .args .s .now)) _ (kind-here k) _ _ (content-found l) (c .before .lengths .given .1) in (
-      found-well (s .args .wanted) (s .args .size) (s .args .s .now) (k .before .before .before .before .before .if1 .left) (is-known k) (is-held (j .before))
-          (judged j JudgedIs.On (l .before .enum-told2 .given .1))
-          (t .0),
-      record { long = k .before .before .before .before .before .if1 .left; held = is-held (j .before); kind-is = kind-here k; lengths-are = t .1 },
-    )
+-- a kind that was found is not unknown
+returns-8 : tie.Need-returns-8
+returns-8 c =
+    let l = c .before .before in
+    let k = l .before .before .before .before .before .before .before in
+    absurd (content-known _ _ (kind-here k) _ (content-found l) _ (c .enum-told4 .given .1))
 
 pub judge-found-spec : {M : Type 1} → statement M
 judge-found-spec =
@@ -146,7 +149,7 @@ judge-found-spec =
     (λ c κs. search needs) (λ c. search needs)
     returns-5
     (λ c. search needs)
-    cast-lengths-of
-    (λ c κs. search needs) (λ c. search needs) (λ c. search needs)
+    (λ c κs. search needs) (λ c. search needs) (λ c. search needs) (λ c. search needs)
     returns-6
-    returns-7)
+    returns-7
+    returns-8)

@@ -24,7 +24,7 @@ returns-2 c =
     let w = c .before .before in
     let s = w .before .before in
     subst (λ (x : Wanted). Passes (mismatchTests x (s .args .found))) (sym (w .wanted .given .1))
-    (matched (w .wanted .given .0 .0) (s .args .found) (bits-same (w .wanted .given .0 .0) (s .args .found) (code-fits (c .before)) (s .fits .found) (c .if1 .taken)))
+    (matched (w .wanted .given .0 .0) (s .args .found) (bits-same w32 (w .wanted .given .0 .0) (s .args .found) (code-fits (c .before)) (s .fits .found) (c .if1 .taken)))
 
 returns-3 : tie.Need-returns-3
 returns-3 c =
@@ -33,7 +33,7 @@ returns-3 c =
     let z = w .wanted .given .0 .0 in
     rw (back w32 z (code-fits (c .before) .sfits), back w32 (s .args .found) (s .fits .found .sfits))
     (subst (λ (x : Wanted). Refuses (mismatchTests x (s .args .found)) (Is.Mismatch z (s .args .found))) (sym (w .wanted .given .1))
-    (mismatched z (s .args .found) (bits-differ z (s .args .found) (c .if1 .left))))
+    (mismatched z (s .args .found) (bits-differ w32 z (s .args .found) (c .if1 .left))))
 
 pub judge-match-spec : {M : Type 1} → statement M
 judge-match-spec = tie.close (tie.spec (λ c. search needs) (λ c. search needs) returns returns-2 returns-3)
