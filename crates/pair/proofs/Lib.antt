@@ -1,5 +1,4 @@
 -- Laws of the rules, as the code meets them.
-pub mod FormulaLaws
 pub mod HeadLaws
 pub mod PlanLaws
 pub mod RecordLaws

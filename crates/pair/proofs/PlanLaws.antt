@@ -8,19 +8,15 @@ use native.Mathlib.Omega.{arith}
 use lib.Dec.{eqb}
 use lib.IntN.{pos}
 use Rattle.format.specs.declared.kinds.Kind.{Kind}
-use Rattle.format.specs.declared.kinds.Found.{Found}
-use Rattle.format.specs.declared.kinds.Found.the-variants as Found
 use Rattle.format.specs.declared.lengths.Lengths.{Lengths}
-use Rattle.format.specs.declared.lengths.Content.{Content}
-use Rattle.format.specs.declared.lengths.Content.the-variants as Content
-use Rattle.format.specs.Kinds.{kindOf, kindAt}
-use Rattle.format.specs.Lengths.{Form, nothing, onePoint, parts, contentOf}
+use Rattle.format.specs.Kinds.{kindAt}
+use Rattle.format.specs.Lengths.{Form, nothing, onePoint, parts, formOf, lengthsOf}
 use Rattle.format.specs.Numbers.{leI32}
 use Rattle.format.specs.WellFormed.{hasRings, leastPoints}
 use Rattle.format.proofs.Equations.{rings-is, least-is}
 use Rattle.format.proofs.KindLaws as Kinds
-use Rattle.format.proofs.KindLaws.{named-at, kind-found, none-found}
-use Rattle.format.proofs.LengthLaws.{lengths-form, content-none, content-some, Flags, form-flags}
+use Rattle.format.proofs.KindLaws.{named-at}
+use Rattle.format.proofs.LengthLaws.{lengths-form, Flags, form-flags}
 use Rattle.rules.specs.Rules.{Taken, littleAt, withForm, takenOf, takenIn}
 use Rattle.rules.proofs.HeaderRules.{named}
 use Rattle.rules.proofs.FirstFault.{taken-is}
@@ -28,22 +24,19 @@ use Rattle.pair.specs.declared.plans.Plan.{Plan}
 use Rattle.pair.specs.declared.plans.Planned.the-variants.{Is, NotTaken}
 use Rattle.pair.specs.Plans.{hasParts, pointsAlone, planFor, planned, alone, takenFrom}
 
--- ---- the kind
+-- ---- the kind that the header names
 
--- the kind that the header names
-kind-at : (s : List ℕ) (k : Kind) → kindOf (leI32 32 s) ≡ Found.Is k → kindAt (pos (littleAt 32 s)) ≡ some k
-kind-at s k e = sym (named-at 32 s) ∙ kind-found (leI32 32 s) k e
-
-taken-at : (s : List ℕ) (k : Kind) → kindOf (leI32 32 s) ≡ Found.Is k → takenIn s ≡ takenOf (some k)
-taken-at s k e = taken-is s ∙ ap takenOf (kind-at s k e)
+module _ (s : List ℕ) (k : Kind) (e : kindAt (leI32 32 s) ≡ some k) where
+  taken-at : takenIn s ≡ takenOf (some k)
+  taken-at = taken-is s ∙ ap takenOf (sym (named-at 32 s) ∙ e)
 
 -- ---- the plan
 
-pub unknown : (s : List ℕ) → kindOf (leI32 32 s) ≡ Found.Unknown → NotTaken ≡ planned (takenIn s)
-unknown s e = sym (ap planned (taken-is s ∙ ap takenOf (sym (named-at 32 s) ∙ none-found (leI32 32 s) e)))
+pub unknown : (s : List ℕ) → kindAt (leI32 32 s) ≡ none → NotTaken ≡ planned (takenIn s)
+unknown s e = sym (ap planned (taken-is s ∙ ap takenOf (sym (named-at 32 s) ∙ e)))
 
-pub not-taken : (s : List ℕ) (k : Kind) → kindOf (leI32 32 s) ≡ Found.Is k → contentOf (k .code) ≡ Content.NotTaken → NotTaken ≡ planned (takenIn s)
-not-taken s k e n = sym (ap planned (taken-at s k e ∙ ap (withForm k) (content-none k (pos (littleAt 32 s)) (kind-at s k e) n)))
+pub not-taken : (s : List ℕ) (k : Kind) → kindAt (leI32 32 s) ≡ some k → formOf k ≡ none → NotTaken ≡ planned (takenIn s)
+not-taken s k e n = sym (ap planned (taken-at s k e ∙ ap (withForm k) n))
 
 -- a kind without parts has code 0, or one point
 form-parts : (k : Kind) (f : Form) → Flags k f → (k .parts ≡ hasParts f) × (cond (eqb (k .code) 0) 0 1 ≡ pointsAlone f)
@@ -52,17 +45,15 @@ form-parts k onePoint e = (e .1, rw (e .0))
 form-parts k parts e = (e .1, rw (e .0))
 
 pub is-taken : (s : List ℕ) (k : Kind) (l : Lengths) (points least : ℕ) (rings : Bool)
-    → kindOf (leI32 32 s) ≡ Found.Is k
-    → contentOf (k .code) ≡ Content.Taken l
+    → kindAt (leI32 32 s) ≡ some k
+    → lengthsOf k ≡ some l
     → points ≡ cond (eqb (k .code) 0) 0 1
     → rings ≡ (eqb (k .code) 5 || eqb (k .code) 15 || eqb (k .code) 25)
     → least ≡ cond rings 4 2
     → Is (record { kind = k; parts = k .parts; points = points; rings = rings; least = least; lengths = l }) ≡ planned (takenIn s)
 is-taken s k l points least rings e n ps rs ls =
-    let z = pos (littleAt 32 s) in
-    let at = kind-at s k e in
-    let o = lengths-form k l (content-some k z at l n) in
-    let p = form-parts k (o .0) (form-flags z k (o .0) at (o .1)) in
+    let o = lengths-form k l n in
+    let p = form-parts k (o .0) (form-flags (leI32 32 s) k (o .0) e (o .1)) in
     let q = ps ∙ p .1 in
     let r = rs ∙ sym (rings-is k) in
     let m : least ≡ leastPoints k = ls ∙ (ap (λ (x : Bool). cond x 4 2) r ∙ sym (least-is k)) in

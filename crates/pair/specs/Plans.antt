@@ -3,6 +3,10 @@ use mathlib.Core.Path.{_≡_}
 use mathlib.Core.Bool.{Bool, true, false, cond}
 use mathlib.Core.Option.{Option, none, some}
 use Prim.Native.Nat.{ℕ, zero, suc, _^_, _<_}
+use lib.IntN.{pos, natAbs}
+use mir.Syntax.{w32}
+use mir.Val.{toZ}
+use Rattle.format.specs.declared.units.Words.{Words}
 use Rattle.format.specs.Lengths.{Form, nothing, onePoint, parts, lengthsFor}
 use Rattle.format.specs.WellFormed.{hasRings, leastPoints}
 use Rattle.rules.specs.Rules.{Taken}
@@ -14,6 +18,15 @@ use Rattle.pair.specs.declared.plans.Planned.the-variants.{Is, NotTaken}
 pub record Word (v r : ℕ) : Type 0 where
   pub value : r ≡ v
   pub small : r < 2 ^ 32
+
+-- r is the words whose bits, 32 of them, are v
+pub record Field (v : ℕ) (r : Words) : Type 0 where
+  pub value : r ≡ record { 0 = toZ w32 v }
+  pub small : v < 2 ^ 32
+
+-- words that are not negative
+abbrev pub Whole : Words → Type 0
+Whole words = words .0 ≡ pos (natAbs (words .0))
 
 abbrev pub hasParts : Form → Bool
 hasParts nothing = false

@@ -2,9 +2,10 @@
 ghost use mathlib.Core.Path.{_≡_};
 ghost use mathlib.Core.Bool.{_||_};
 ghost use Prim.Native.Nat.{_+_, _*_, _^_, _≤_, _<_};
-ghost use lib.Dec.{eqb};
+ghost use lib.IntN.{pos};
 ghost use lib.ListN.{length, drop};
 ghost use Rattle.format.specs.Lengths.{formulaWords};
+ghost use Rattle.format.specs.Units.{sameInt};
 ghost use Rattle.rules.specs.Rules.{P3, P7, P8, P9, P10, P11, P13, lengthRight, bigAt};
 ghost use Rattle.pair.specs.Plans.{planFor, takenFrom};
 ghost use Rattle.pair.specs.Verdicts.{frontFault, backFault, headFault};
@@ -12,10 +13,10 @@ use crate::leaves::big;
 use crate::leaves::in_bytes;
 use crate::leaves::little;
 use crate::leaves::same_bytes;
+use crate::leaves::words_at;
 use crate::plans::Plan;
-use format::lengths::Counted;
-use format::lengths::Formula;
 use format::lengths::Lengths;
+use format::units::Words;
 
 // ---- the headers
 
@@ -38,8 +39,8 @@ fn length_right(s: &[u8]) -> bool
     requires { ⌜ 100 ≤ length (now s) ⌝ }
     ensures { λ r. ⌜ r ≡ lengthRight (now (s .entry)) ⌝ }
 {
-    let words = big(s, 24);
-    if words >= 0x8000_0000 {
+    let words = words_at(s, 24);
+    if words.0 < 0 {
         return false;
     }
     in_bytes(words) == s.len()
@@ -124,11 +125,11 @@ fn inside(shp: &[u8], at: usize) -> bool
     requires { ⌜ at + 8 ≤ length (now shp) ⌝ }
     ensures { λ r. ⌜ r ≡ P10 (drop at (now (shp .entry))) ⌝ }
 {
-    let words = big(shp, at + 4);
-    if words >= 0x8000_0000 {
+    let words = words_at(shp, at + 4);
+    if words.0 < 0 {
         return false;
     }
-    if words < 2 {
+    if words.0 < 2 {
         return false;
     }
     8 + in_bytes(words) <= shp.len() - at
@@ -142,38 +143,29 @@ fn indexed(shp: &[u8], shx: &[u8], at: usize, ix: usize) -> bool
     if shx.len() - ix < 8 {
         return false;
     }
-    let offset = big(shx, ix);
-    if offset >= 0x8000_0000 {
+    let offset = words_at(shx, ix);
+    if offset.0 < 0 {
         return false;
     }
     if in_bytes(offset) != at {
         return false;
     }
-    big(shx, ix + 4) == big(shp, at + 4)
-}
-
-// A formula gives so many words.
-fn gives(f: Formula, p: usize, n: usize, words: usize) -> bool
-    requires { ⌜ (p < 2 ^ 31) × (n < 2 ^ 31) × (words < 2 ^ 31) ⌝ }
-    ensures { λ r. ⌜ r ≡ eqb words (formulaWords f p n) ⌝ }
-{
-    match format::lengths::content_words(f, p as u32, n as u32) {
-        Counted::Is(w) => words as i32 == w.0,
-        Counted::Long => false,
-    }
+    let indexed = words_at(shx, ix + 4);
+    let own = words_at(shp, at + 4);
+    indexed.0 == own.0
 }
 
 // One of the two formulas of a kind gives so many words.
-fn measures(lengths: Lengths, p: usize, n: usize, words: usize) -> bool
-    requires { ⌜ (p < 2 ^ 31) × (n < 2 ^ 31) × (words < 2 ^ 31) ⌝ }
-    ensures { λ r. ⌜ r ≡ (eqb words (formulaWords (lengths .without) p n) || eqb words (formulaWords (lengths .with) p n)) ⌝ }
+fn measures(lengths: Lengths, p: usize, n: usize, words: Words) -> bool
+    requires { ⌜ (p < 2 ^ 31) × (n < 2 ^ 31) ⌝ }
+    ensures { λ r. ⌜ r ≡ (sameInt (words .0) (pos (formulaWords (lengths .without) p n)) || sameInt (words .0) (pos (formulaWords (lengths .with) p n))) ⌝ }
 {
     let without = lengths.without;
-    if gives(without, p, n, words) {
+    if format::lengths::comes_to(without, p as u32, n as u32, words) {
         return true;
     }
     let with = lengths.with;
-    gives(with, p, n, words)
+    format::lengths::comes_to(with, p as u32, n as u32, words)
 }
 
 // P13: the counts are not negative, and the length is one that they give. With parts, too few words for the counts fit no formula.
@@ -181,12 +173,12 @@ fn sized(plan: Plan, shp: &[u8], at: usize) -> bool
     requires { ⌜ (plan ≡ planFor (takenFrom plan)) × (at + 8 + 2 * bigAt (at + 4) (now shp) ≤ length (now shp)) × (bigAt (at + 4) (now shp) < 2 ^ 31) ⌝ }
     ensures { λ r. ⌜ r ≡ P13 (takenFrom plan) (drop at (now (shp .entry))) ⌝ }
 {
-    let words = big(shp, at + 4);
+    let words = words_at(shp, at + 4);
     let lengths = plan.lengths;
     if !plan.parts {
         return measures(lengths, 0, plan.points, words);
     }
-    if words < 22 {
+    if words.0 < 22 {
         return false;
     }
     let p = little(shp, at + 44);

@@ -2,11 +2,12 @@
 // that what is read lies within the bytes.
 ghost use mathlib.Core.Path.{_≡_};
 ghost use Prim.Native.Nat.{_+_, _*_, _^_, _≤_, _<_};
+ghost use lib.IntN.{natAbs};
 ghost use lib.ListN.{length, replicate};
 ghost use Rattle.format.specs.Bytes.{field};
 ghost use Rattle.format.specs.Numbers.{finite};
 ghost use Rattle.rules.specs.Rules.{bigAt, littleAt, doubleAt, sameBytes, finites, endOf, ringClosed};
-ghost use Rattle.pair.specs.Plans.{Word};
+ghost use Rattle.pair.specs.Plans.{Word, Field, Whole};
 use format::units::Words;
 
 // The bits of an i32 field, high byte first.
@@ -25,12 +26,28 @@ pub(crate) fn little(s: &[u8], at: usize) -> usize
     fields::le_number(s, at, 4) as usize
 }
 
-// So many words, that an i32 holds, in bytes.
-pub(crate) fn in_bytes(words: usize) -> usize
-    requires { ⌜ words < 2 ^ 31 ⌝ }
-    ensures { λ r. ⌜ r ≡ 2 * words ⌝ }
+// A length or an offset in words, as an i32 field has it, high byte first.
+pub(crate) fn words_at(s: &[u8], at: usize) -> Words
+    requires { ⌜ at + 4 ≤ length (now s) ⌝ }
+    ensures { λ r. ⌜ Field (bigAt at (now (s .entry))) r ⌝ }
 {
-    let bytes = format::units::to_bytes(Words(words as i32));
+    Words(fields::signed(fields::be_number(s, at, 4)))
+}
+
+// Words that are not negative, as a number.
+pub(crate) fn count(words: Words) -> usize
+    requires { ⌜ Whole words ⌝ }
+    ensures { λ r. ⌜ r ≡ natAbs (words .0) ⌝ }
+{
+    words.0 as usize
+}
+
+// And in bytes.
+pub(crate) fn in_bytes(words: Words) -> usize
+    requires { ⌜ Whole words ⌝ }
+    ensures { λ r. ⌜ r ≡ 2 * natAbs (words .0) ⌝ }
+{
+    let bytes = format::units::to_bytes(words);
     bytes.0 as usize
 }
 

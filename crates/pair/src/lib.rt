@@ -60,7 +60,7 @@ fn walk(plan: Plan, shp: &[u8], shx: &[u8]) -> Verdict
                 record: k,
             };
         }
-        let words = leaves::big(shp, at + 4);
+        let words = leaves::words_at(shp, at + 4);
         let p = plans::parts_at(plan, shp, at);
         let n = plans::points_at(plan, shp, at);
         // P14: there is a part, the first one starts at point 0, and each has points enough

@@ -3,14 +3,17 @@ ghost use mathlib.Core.Path.{_≡_};
 ghost use mathlib.Core.Bool.{true, cond, _&&_, _||_};
 ghost use Prim.Native.Nat.{_+_, _*_, _-_, _/_, _≤_};
 ghost use lib.Dec.{leb, eqb};
+ghost use lib.IntN.{natAbs};
 ghost use lib.ListN.{length};
 ghost use Rattle.rules.specs.Rules.{littleAt, takenIn};
-ghost use Rattle.pair.specs.Plans.{Word, planned};
+ghost use Rattle.pair.specs.Plans.{Word, Whole, planned};
+use crate::leaves::count;
 use crate::leaves::little;
 use format::kinds::Found;
 use format::kinds::Kind;
 use format::lengths::Content;
 use format::lengths::Lengths;
+use format::units::Words;
 
 pub struct Plan {
     pub kind: Kind,
@@ -61,18 +64,20 @@ pub(crate) fn plan_in(shp: &[u8]) -> Planned
     let Found::Is(kind) = format::kinds::find_kind(code) else {
         return Planned::NotTaken;
     };
-    let Content::Taken(lengths) = format::lengths::lengths_of(kind.code) else {
-        return Planned::NotTaken;
-    };
     let rings = has_rings(kind.code);
-    Planned::Is(Plan {
-        kind: kind,
-        parts: kind.parts,
-        points: points_alone(kind.code),
-        rings: rings,
-        least: least_points(rings),
-        lengths: lengths,
-    })
+    match format::lengths::lengths_of(code) {
+        Content::Taken(lengths) => Planned::Is(Plan {
+            kind: kind,
+            parts: kind.parts,
+            points: points_alone(kind.code),
+            rings: rings,
+            least: least_points(rings),
+            lengths: lengths,
+        }),
+        Content::NotTaken(_) => Planned::NotTaken,
+        // which a kind that was found is not
+        Content::Unknown(_) => Planned::NotTaken,
+    }
 }
 
 // The counts of the record at a place.
@@ -116,19 +121,23 @@ pub(crate) fn rings_in(plan: Plan, p: usize) -> usize
 }
 
 // The doubles in front of the counts, or all of a record without parts; and those behind the starts.
-pub(crate) fn front_doubles(plan: Plan, words: usize) -> usize
-    requires { ⌜ 2 ≤ words ⌝ }
-    ensures { λ r. ⌜ r ≡ cond (plan .parts) 4 ((words - 2) / 4) ⌝ }
-{
-    if plan.parts { 4 } else { (words - 2) / 4 }
-}
-
-pub(crate) fn back_doubles(plan: Plan, words: usize, p: usize) -> usize
-    requires { ⌜ (plan .parts ≡ true → 22 + 2 * p ≤ words) ⌝ }
-    ensures { λ r. ⌜ r ≡ cond (plan .parts) ((words - 22 - 2 * p) / 4) 0 ⌝ }
+pub(crate) fn front_doubles(plan: Plan, words: Words) -> usize
+    requires { ⌜ (Whole words) × (2 ≤ natAbs (words .0)) ⌝ }
+    ensures { λ r. ⌜ r ≡ cond (plan .parts) 4 ((natAbs (words .0) - 2) / 4) ⌝ }
 {
     if plan.parts {
-        (words - 22 - 2 * p) / 4
+        4
+    } else {
+        (count(words) - 2) / 4
+    }
+}
+
+pub(crate) fn back_doubles(plan: Plan, words: Words, p: usize) -> usize
+    requires { ⌜ (Whole words) × (plan .parts ≡ true → 22 + 2 * p ≤ natAbs (words .0)) ⌝ }
+    ensures { λ r. ⌜ r ≡ cond (plan .parts) ((natAbs (words .0) - 22 - 2 * p) / 4) 0 ⌝ }
+{
+    if plan.parts {
+        (count(words) - 22 - 2 * p) / 4
     } else {
         0
     }

@@ -4,6 +4,7 @@ use mathlib.Core.Bool.{true}
 use mathlib.Core.List.{List}
 use Prim.Native.Nat.{ℕ, _+_, _*_, _-_, _^_, _≤_, _<_}
 use native.Mathlib.Omega.{arith}
+use lib.IntN.{natAbs}
 use lib.ListN.{length, drop}
 use borrow.Author.Needs.{needs}
 use borrow.Author.Tests.{not-true, not-false}
@@ -12,7 +13,8 @@ use Rattle.rules.specs.Rules.{Counts, bigAt, partsLong, ringsClosed, finites, n
 use Rattle.rules.proofs.Turns.{Part, part, parts-go, parts-no, parts-done, rings-go, rings-no, rings-done, finites-go, finites-no, finites-done}
 use Rattle.rules.proofs.WalkLaws.{left-over, all-behind}
 use Rattle.pair.specs.declared.plans.Plan.{Plan}
-use Rattle.pair.specs.Plans.{takenFrom}
+use Rattle.pair.specs.Plans.{Whole, takenFrom}
+use Rattle.pair.proofs.UnitLaws.{field-whole, field-count}
 use Rattle.pair.proofs.WalkLaws.{Walked, Open, Room, room, Here, Fit, fit, counts-room, no-head, begins, long, closed, front, long-rings, few-rings, no14-first, no14, no15, no16-front, no16, next}
 use Rattle.pair.proofs.walk.Statement.{statement}
 use Rattle.pair.proofs.walk.Tie as tie
@@ -67,7 +69,7 @@ abbrev Opened : Type 0
 Opened = tie.Else3 Inv-parts μ-parts Inv-rings μ-rings Inv-front μ-front Inv-doubles μ-doubles Inv-walk μ-walk
 
 abbrev Worded : Type 0
-Worded = tie.After-big Inv-parts μ-parts Inv-rings μ-rings Inv-front μ-front Inv-doubles μ-doubles Inv-walk μ-walk
+Worded = tie.After-words-at Inv-parts μ-parts Inv-rings μ-rings Inv-front μ-front Inv-doubles μ-doubles Inv-walk μ-walk
 
 abbrev Counted : Type 0
 Counted = tie.After-points-at Inv-parts μ-parts Inv-rings μ-rings Inv-front μ-front Inv-doubles μ-doubles Inv-walk μ-walk
@@ -114,7 +116,7 @@ abbrev turn : (c : Counted) → Turn
 turn c = c .before .before .before .before .before .before
 
 abbrev w-of : (c : Counted) → ℕ
-w-of c = c .before .before .big .result
+w-of c = natAbs (c .before .before .words-at .result .0)
 
 abbrev p-of : (c : Counted) → ℕ
 p-of c = c .before .parts-at .result
@@ -135,14 +137,24 @@ opened c =
     let s = c .before .before .before .before .before .before in
     record { is = s .pre .0; ringed = s .pre .1; inside = c .before .before .if1 .left; hd = sym (c .if3 .left) ∙ c .before .head-fault .ensures }
 
-worded : (c : Worded) → Room (plan-of (c .before .before .before .before)) (shp-of (c .before .before .before .before)) (shx-of (c .before .before .before .before)) (c .before .before .before .before .walk .at) (c .before .before .before .before .walk .ix) (c .big .result)
-worded c = room (opened (c .before)) (c .big .result) (c .big .ensures .value)
+-- its words, which an i32 holds
+words-held : (c : Worded) → bigAt (c .before .before .before .before .walk .at + 4) (shp-of (c .before .before .before .before)) < 2 ^ 31
+words-held c = room (opened (c .before)) (bigAt (c .before .before .before .before .walk .at + 4) (shp-of (c .before .before .before .before))) refl .held
+
+words-are : (c : Worded) → natAbs (c .words-at .result .0) ≡ bigAt (c .before .before .before .before .walk .at + 4) (shp-of (c .before .before .before .before))
+words-are c = field-count _ _ (c .words-at .ensures) (words-held c)
+
+words-whole : (c : Worded) → Whole (c .words-at .result)
+words-whole c = field-whole _ _ (c .words-at .ensures) (words-held c)
+
+worded : (c : Worded) → Room (plan-of (c .before .before .before .before)) (shp-of (c .before .before .before .before)) (shx-of (c .before .before .before .before)) (c .before .before .before .before .walk .at) (c .before .before .before .before .walk .ix) (natAbs (c .words-at .result .0))
+worded c = room (opened (c .before)) (natAbs (c .words-at .result .0)) (words-are c)
 
 here : (c : Counted) → Here (plan-of (turn c)) (shp-of (turn c)) (shx-of (turn c)) (turn c .walk .at) (turn c .walk .ix) (turn c .walk .records) (turn c .walk .parts) (turn c .walk .points) (w-of c) (p-of c) (n-of c) (whole (turn c))
 here c =
     record {
       opened = opened (c .before .before .before);
-      we = c .before .before .big .ensures .value;
+      we = words-are (c .before .before);
       pe = c .before .parts-at .ensures .value;
       ne = c .points-at .ensures;
       rest = turn c .walk .inv .rest;
@@ -213,8 +225,8 @@ walk-holds c =
 head-fault-requires : tie.Need-head-fault-requires Inv-parts μ-parts Inv-rings μ-rings Inv-front μ-front Inv-doubles μ-doubles Inv-walk μ-walk
 head-fault-requires c κs = (c .before .before .before .before .pre .0, c .before .walk .inv .low, c .before .walk .inv .xlow)
 
-big-requires : tie.Need-big-requires Inv-parts μ-parts Inv-rings μ-rings Inv-front μ-front Inv-doubles μ-doubles Inv-walk μ-walk
-big-requires c κs =
+words-at-requires : tie.Need-words-at-requires Inv-parts μ-parts Inv-rings μ-rings Inv-front μ-front Inv-doubles μ-doubles Inv-walk μ-walk
+words-at-requires c κs =
     let r = room (opened c) (bigAt (c .before .before .before .walk .at + 4) (shp-of (c .before .before .before))) refl in
     omega (arith, r .within)
 
@@ -312,7 +324,9 @@ add-front : tie.Need-add-front Inv-parts μ-parts Inv-rings μ-rings Inv-front �
 add-front c = omega (arith, small (c .before .before .before .before .before .before .before .before .before .before .before .before))
 
 front-doubles-requires : tie.Need-front-doubles-requires Inv-parts μ-parts Inv-rings μ-rings Inv-front μ-front Inv-doubles μ-doubles Inv-walk μ-walk
-front-doubles-requires c κs = worded (c .before .before .before .before .before .before .before .before .before) .some
+front-doubles-requires c κs =
+    let w = c .before .before .before .before .before .before .before .before .before in
+    (words-whole w, worded w .some)
 
 front-holds : tie.Need-front-holds Inv-parts μ-parts Inv-rings μ-rings Inv-front μ-front Inv-doubles μ-doubles Inv-walk μ-walk
 front-holds c = (refl, refl)
@@ -334,7 +348,9 @@ front-again c =
     (omega (arith, l .inv .0, t), finites-go _ (l .front) (l .fronts) t (sym (c .before .is-finite .ensures) ∙ not-false _ (c .if7 .left)) ∙ l .inv .1)
 
 back-doubles-requires : tie.Need-back-doubles-requires Inv-parts μ-parts Inv-rings μ-rings Inv-front μ-front Inv-doubles μ-doubles Inv-walk μ-walk
-back-doubles-requires c κs = λ e. omega (arith, counts-room (here (c .before .before .before .before .before .before .before .before .before .before)) e)
+back-doubles-requires c κs =
+    let k = c .before .before .before .before .before .before .before .before .before .before in
+    (words-whole (k .before .before), λ e. omega (arith, counts-room (here k) e))
 
 doubles-holds : tie.Need-doubles-holds Inv-parts μ-parts Inv-rings μ-rings Inv-front μ-front Inv-doubles μ-doubles Inv-walk μ-walk
 doubles-holds c = (refl, omega arith, refl)
@@ -359,7 +375,7 @@ doubles-again c =
     )
 
 in-bytes-requires : tie.Need-in-bytes-requires Inv-parts μ-parts Inv-rings μ-rings Inv-front μ-front Inv-doubles μ-doubles Inv-walk μ-walk
-in-bytes-requires c κs = fitted (c .before .before .before .before .before .before .before .before .before .before .before .before .before) .held
+in-bytes-requires c κs = words-whole (c .before .before .before .before .before .before .before .before .before .before .before .before .before .before .before)
 
 add-at : tie.Need-add-at Inv-parts μ-parts Inv-rings μ-rings Inv-front μ-front Inv-doubles μ-doubles Inv-walk μ-walk
 add-at c = omega (arith, c .in-bytes .ensures, fitted (c .before .before .before .before .before .before .before .before .before .before .before .before .before .before) .held)
@@ -466,7 +482,7 @@ walk-spec =
     (λ c. search needs)
     head-fault-requires
     (λ c. search needs)
-    big-requires
+    words-at-requires
     parts-at-requires
     points-at-requires
     begins-requires

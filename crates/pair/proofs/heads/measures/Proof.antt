@@ -5,10 +5,16 @@ use Rattle.pair.proofs.heads.measures.Statement.{statement}
 use Rattle.pair.proofs.heads.measures.Tie as tie
 
 returns : tie.Need-returns
-returns c = rw (sym (c .before .gives .ensures) ∙ c .if1 .taken)
+returns c = rw (sym (c .before .comes-to .ensures) ∙ c .if1 .taken)
 
 returns-2 : tie.Need-returns-2
-returns-2 c = rw (sym (c .before .before .before .gives .ensures) ∙ c .before .before .if1 .left) (c .gives2 .ensures)
+returns-2 c = rw (sym (c .before .before .before .comes-to .ensures) ∙ c .before .before .if1 .left) (c .comes-to2 .ensures)
 
 pub measures-spec : {M : Type 1} → statement M
-measures-spec = tie.close (tie.spec (λ c κs. search needs) returns (λ c κs. search needs) returns-2)
+measures-spec =
+    tie.close
+    (tie.spec
+    (λ c. search needs) (λ c. search needs) (λ c κs. search needs)
+    returns
+    (λ c. search needs) (λ c. search needs) (λ c κs. search needs)
+    returns-2)
