@@ -29,10 +29,12 @@ pub enum Counted {
 
 // Beside each row of `KINDS` what its content takes.
 const CONTENTS: [Content; 14] = [
+    // 0 Null
     Content::Taken(Lengths {
         without: Formula { fixed: 2, point: 0 },
         with: Formula { fixed: 2, point: 0 },
     }),
+    // 1 Point
     Content::Taken(Lengths {
         without: Formula {
             fixed: 10,
@@ -43,6 +45,7 @@ const CONTENTS: [Content; 14] = [
             point: 0,
         },
     }),
+    // 3 Polyline
     Content::Taken(Lengths {
         without: Formula {
             fixed: 22,
@@ -53,6 +56,7 @@ const CONTENTS: [Content; 14] = [
             point: 8,
         },
     }),
+    // 5 Polygon
     Content::Taken(Lengths {
         without: Formula {
             fixed: 22,
@@ -63,7 +67,9 @@ const CONTENTS: [Content; 14] = [
             point: 8,
         },
     }),
+    // 8 Multipoint
     Content::NotTaken,
+    // 11 PointZ
     Content::Taken(Lengths {
         without: Formula {
             fixed: 18,
@@ -74,6 +80,7 @@ const CONTENTS: [Content; 14] = [
             point: 0,
         },
     }),
+    // 13 PolylineZ
     Content::Taken(Lengths {
         without: Formula {
             fixed: 30,
@@ -84,6 +91,7 @@ const CONTENTS: [Content; 14] = [
             point: 16,
         },
     }),
+    // 15 PolygonZ
     Content::Taken(Lengths {
         without: Formula {
             fixed: 30,
@@ -94,7 +102,9 @@ const CONTENTS: [Content; 14] = [
             point: 16,
         },
     }),
+    // 18 MultipointZ
     Content::NotTaken,
+    // 21 PointM
     Content::Taken(Lengths {
         without: Formula {
             fixed: 14,
@@ -105,6 +115,7 @@ const CONTENTS: [Content; 14] = [
             point: 0,
         },
     }),
+    // 23 PolylineM
     Content::Taken(Lengths {
         without: Formula {
             fixed: 22,
@@ -115,6 +126,7 @@ const CONTENTS: [Content; 14] = [
             point: 12,
         },
     }),
+    // 25 PolygonM
     Content::Taken(Lengths {
         without: Formula {
             fixed: 22,
@@ -125,7 +137,9 @@ const CONTENTS: [Content; 14] = [
             point: 12,
         },
     }),
+    // 28 MultipointM
     Content::NotTaken,
+    // 31 Multipatch
     Content::NotTaken,
 ];
 
