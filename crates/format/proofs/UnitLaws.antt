@@ -9,7 +9,7 @@ use lib.Signed.{ltZ, mag, shrZ, mag-shr}
 use mir.Syntax.{w32, w64}
 use mir.Val.{SFits, toZ, ofZ}
 use mir.ValLaws.{toZ-ofZ, sfits-le}
-use borrow.Author.Tests.{lt-ltb, le-ltb, ltb-true, ltb-false, eq-eqb, ne-eqb}
+use borrow.Author.Tests.{lt-ltb, le-ltb, ltb-true, ltb-false, eq-eqb, eqb-true, ne-eqb}
 use Rattle.format.specs.declared.units.Bytes.{Bytes}
 use Rattle.format.specs.declared.units.InWords.the-variants.{Is, Not}
 use Rattle.format.specs.Units.{sameInt, inI32, inWords}
@@ -52,6 +52,12 @@ same-no (pos a) (pos b) e = ne-eqb a b (λ p. e (ap pos p))
 same-no (pos a) (negsuc b) e = refl
 same-no (negsuc a) (pos b) e = refl
 same-no (negsuc a) (negsuc b) e = ne-eqb a b (λ p. e (ap negsuc p))
+
+pub same-is : (x y : ℤ) → sameInt x y ≡ true → x ≡ y
+same-is (pos a) (pos b) e = ap pos (eqb-true a b e)
+same-is (pos a) (negsuc b) e = absurd (subst T (sym e) tt)
+same-is (negsuc a) (pos b) e = absurd (subst T (sym e) tt)
+same-is (negsuc a) (negsuc b) e = ap negsuc (eqb-true a b e)
 
 -- numbers with the same bits are the same
 pub same-bits : (x y : ℤ) → SFits w64 x → SFits w64 y → ofZ w64 x ≡ ofZ w64 y → x ≡ y
