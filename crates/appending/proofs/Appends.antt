@@ -1,60 +1,112 @@
--- One record more behind the others: its number is one more than theirs, and it stands where they end.
-use mathlib.Core.Path.{_≡_, sym, ap, ap₂, _∙_}
+-- One record more behind the others: its number is one more than theirs, it stands where they end, and its kind is theirs.
+use mathlib.Core.Path.{_≡_, refl, sym, ap, ap₂, _∙_}
 use mathlib.Core.List.{List, [], _∷_, _++_}
-use Prim.Native.Nat.{ℕ, _+_, _*_}
+use mathlib.Core.Option.{some}
+use Prim.Native.Nat.{ℕ, _+_, _*_, _<_}
 use native.Mathlib.Omega.{arith}
-use lib.IntN.{pos, natAbs}
+use lib.IntN.{ℤ, pos, natAbs}
 use lib.ListN.{length, length-append}
-use Rattle.format.specs.Encoding.{Box, recordBytes, entryBytes, endFrom, headerBytes, shpBytes, shxBytes, shapeWords}
+use Rattle.format.specs.declared.kinds.Kind.{Kind}
+use Rattle.format.specs.Encoding.{Box, recordBytes, entryBytes, endFrom, headerBytes, shapeWords, Held, HeldFrom, IsPair}
+use Rattle.format.specs.Kinds.{kindAt, kindOr}
 use Rattle.format.specs.Shapes.{Shape}
-use Rattle.format.proofs.Equations.{shp-is, shx-is}
-use Rattle.format.proofs.Records.{records-more, end-more, entries-more}
+use Rattle.format.proofs.Equations.{records-nil, end-nil, shp-is, shx-is}
+use Rattle.format.proofs.Records.{records-more, end-more, entries-more, held-more}
 use Rattle.header.specs.Box.{boxBits}
 use Rattle.writer.specs.declared.State.{State}
-use Rattle.writer.specs.Adding.{Lent, lentKind, lentShape, recordOf, entryOf, nextState}
+use Rattle.writer.specs.Adding.{Lent, lentKind, lentShape, recordOf, entryOf, wordsThen, nextState}
 use Rattle.writer.specs.Boxes.{settled}
 use Rattle.writer.specs.Finishing.{shpHeader, shxHeader}
-use Rattle.writer.proofs.NextLaws.{words-next, number-next, shp-next, shx-next}
-use Rattle.appending.specs.OneMore.{Behind, records, entries, Appending}
+use Rattle.writer.proofs.Accepted.{Accepted, accepted, code, shape-fits, kind-stays, next-room, next-fine}
+use Rattle.writer.proofs.NextLaws.{words-next, number-next, kind-next, shp-next, shx-next}
+use Rattle.appending.specs.OneMore.{KindBehind, Behind, records, entries, Beginning, Appending}
 
-module _ (ss : List Shape) (s : State) (t : Lent) (b : Behind ss s) (c : t .code ≡ pos (lentKind t .code)) where
+pub fresh-behind : Beginning
+fresh-behind k = record { words = ap pos (sym (end-nil 50)); number = refl; kind = refl; held = tt }
+
+-- ---- the kind behind shapes
+
+kind-behind : (k : Kind) (ss : List Shape) (c : ℤ) → KindBehind k ss c → 0 < length ss → kindAt c ≡ some k
+kind-behind k [] c e h = absurd (omega arith)
+kind-behind k (x ∷ ss) c e h = e
+
+kind-more : (k : Kind) (ss : List Shape) (x : Shape) (c : ℤ) → kindAt c ≡ some k → KindBehind k (ss ++ x ∷ []) c
+kind-more k [] x c e = e
+kind-more k (y ∷ ss) x c e = e
+
+records-same : (k l : Kind) (ss : List Shape) → (0 < length ss → k ≡ l) → records k ss ≡ records l ss
+records-same k l [] e = records-nil k 1 ∙ sym (records-nil l 1)
+records-same k l (x ∷ ss) e = ap (λ (i : Kind). records i (x ∷ ss)) (e (omega arith))
+
+module _ (k : Kind) (ss : List Shape) (s : State) (t : Lent) (b : Behind k ss s) (a : Accepted s t) where
   words-are : natAbs (s .words .0) ≡ endFrom 50 ss
   words-are = ap natAbs (b .words)
 
   number-is : natAbs (s .number) ≡ 1 + length ss
   number-is = ap natAbs (b .number) ∙ omega arith
 
-  end-is : natAbs (s .words .0) + (4 + shapeWords (lentShape t)) ≡ endFrom 50 (ss ++ lentShape t ∷ [])
+  end-is : wordsThen s t ≡ endFrom 50 (ss ++ lentShape t ∷ [])
   end-is = ap (λ (w : ℕ). w + (4 + shapeWords (lentShape t))) words-are ∙ sym (end-more 50 ss (lentShape t))
 
   count-is : natAbs (s .number) + 1 ≡ length (ss ++ lentShape t ∷ []) + 1
   count-is = omega (arith, number-is, length-append ss (lentShape t ∷ []))
 
   code-is : natAbs (t .code) ≡ lentKind t .code
-  code-is = ap natAbs c
+  code-is = ap natAbs (code s t a)
 
-  behind : Behind (ss ++ lentShape t ∷ []) (nextState s t)
-  behind = record { words = words-next s t ∙ ap pos end-is; number = number-next s t ∙ ap pos count-is }
+  kind-is : 0 < length ss → k ≡ lentKind t
+  kind-is h =
+      let e = kind-stays s t a (λ one. omega (arith, number-is)) in
+      ap kindOr (sym (kind-behind k ss (s .kind) (b .kind) h) ∙ ap kindAt e)
 
-  abbrev box : Box
-  box = boxBits (settled (nextState s t .bbox))
+  all-held : HeldFrom 1 50 (ss ++ lentShape t ∷ [])
+  all-held =
+      let f = shape-fits s t a in
+      let number : Held (1 + length ss) = omega (arith, number-is, next-room s t a, a .held) in
+      let word : Held (endFrom 50 ss) = omega (arith, words-are, a .held) in
+      held-more 1 50 ss (lentShape t ∷ []) (b .held) (number, word, omega (arith, a .held), f .parts-held, f .points-held, tt)
 
-  shp : shpHeader (nextState s t) ++ (records (lentKind t) ss ++ recordOf s t) ≡ shpBytes (lentKind t) box (ss ++ lentShape t ∷ [])
-  shp =
-      ap₂ _++_
-      (shp-next s t ∙ ap₂ (λ (w c : ℕ). headerBytes w 1000 c box) end-is code-is)
-      (ap (λ (n : ℕ). records (lentKind t) ss ++ recordBytes (lentKind t) n (lentShape t)) number-is ∙ sym (records-more (lentKind t) 1 ss (lentShape t)))
-      ∙ sym (shp-is (lentKind t) box (ss ++ lentShape t ∷ []))
+  behind : Behind (lentKind t) (ss ++ lentShape t ∷ []) (nextState s t)
+  behind =
+      record {
+        words = words-next s t ∙ ap pos end-is;
+        number = number-next s t ∙ ap pos count-is;
+        kind = kind-more (lentKind t) ss (lentShape t) (nextState s t .kind) (ap kindAt (kind-next s t) ∙ a .kind);
+        held = all-held;
+      }
+
+  appended : records (lentKind t) (ss ++ lentShape t ∷ []) ≡ records k ss ++ recordOf s t
+  appended =
+      records-more (lentKind t) 1 ss (lentShape t)
+      ∙ ap₂ (λ (l : List ℕ) (n : ℕ). l ++ recordBytes (lentKind t) n (lentShape t)) (sym (records-same k (lentKind t) ss kind-is)) (sym number-is)
+
+  indexed : entries (ss ++ lentShape t ∷ []) ≡ entries ss ++ entryOf s t
+  indexed = entries-more 50 ss (lentShape t) ∙ ap (λ (w : ℕ). entries ss ++ entryBytes (record { offset = w; words = shapeWords (lentShape t) })) (sym words-are)
 
   index-is : 50 + 4 * natAbs (s .number) ≡ 50 + 4 * length (ss ++ lentShape t ∷ [])
   index-is = omega (arith, number-is, length-append ss (lentShape t ∷ []))
 
-  shx : shxHeader (nextState s t) ++ (entries ss ++ entryOf s t) ≡ shxBytes (lentKind t) box (ss ++ lentShape t ∷ [])
-  shx =
-      ap₂ _++_
-      (shx-next s t ∙ ap₂ (λ (w c : ℕ). headerBytes w 1000 c box) index-is code-is)
-      (ap (λ (w : ℕ). entries ss ++ entryBytes (record { offset = w; words = shapeWords (lentShape t) })) words-are ∙ sym (entries-more 50 ss (lentShape t)))
-      ∙ sym (shx-is (lentKind t) box (ss ++ lentShape t ∷ []))
+  abbrev box : Box
+  box = boxBits (settled (nextState s t .bbox))
+
+  pair : IsPair (lentKind t) box (ss ++ lentShape t ∷ []) (shpHeader (nextState s t) ++ (records k ss ++ recordOf s t)) (shxHeader (nextState s t) ++ (entries ss ++ entryOf s t))
+  pair =
+      record {
+        shp-is = shp-is (lentKind t) box (ss ++ lentShape t ∷ []) ∙ ap₂ _++_ (sym (shp-next s t ∙ ap₂ (λ (w c : ℕ). headerBytes w 1000 c box) end-is code-is)) appended;
+        shx-is = shx-is (lentKind t) box (ss ++ lentShape t ∷ []) ∙ ap₂ _++_ (sym (shx-next s t ∙ ap₂ (λ (w c : ℕ). headerBytes w 1000 c box) index-is code-is)) indexed;
+        shp-held = omega (arith, end-is, a .held);
+        shx-held = omega (arith, index-is, next-room s t a, a .held);
+        held = all-held;
+      }
 
 pub appends : Appending
-appends ss s t b c = record { behind = behind ss s t b c; shp = shp ss s t b c; shx = shx ss s t b c }
+appends k ss s t out start entry n b e =
+    let a = accepted s t out start entry n e in
+    record {
+      of-kind = shape-fits s t a .of-kind;
+      behind = behind k ss s t b a;
+      fine = next-fine s t a;
+      appended = appended k ss s t b a;
+      indexed = indexed k ss s t b a;
+      pair = pair k ss s t b a;
+    }

@@ -1,23 +1,35 @@
--- Adding a record: where the caller appends the record and the entry and puts the finished headers in front, the two files are the paper's
--- encoding of one shape more.
+-- An add that is taken: where the caller appends the record and the entry and puts the finished headers in front, the two files are the paper's
+-- encoding of one shape more, with every number in its field.
 use mathlib.Core.Path.{_≡_}
+use mathlib.Core.Bool.{true}
 use mathlib.Core.List.{List, [], _∷_, _++_, map, flatten}
+use mathlib.Core.Option.{some}
 use Prim.Native.Nat.{ℕ, _+_}
-use lib.IntN.{pos}
+use lib.IntN.{ℤ, pos}
 use lib.ListN.{length}
 use Rattle.format.specs.declared.kinds.Kind.{Kind}
-use Rattle.format.specs.Encoding.{recordsFrom, entriesFrom, entryBytes, endFrom, shpBytes, shxBytes}
-use Rattle.format.specs.Shapes.{Shape}
+use Rattle.format.specs.Encoding.{recordsFrom, entriesFrom, entryBytes, endFrom, HeldFrom, IsPair}
+use Rattle.format.specs.Kinds.{kindAt}
+use Rattle.format.specs.Said.{gives}
+use Rattle.format.specs.Shapes.{Shape, OfKind}
 use Rattle.header.specs.Box.{boxBits}
 use Rattle.writer.specs.declared.State.{State}
-use Rattle.writer.specs.Adding.{Lent, lentKind, lentShape, recordOf, entryOf, nextState}
+use Rattle.writer.specs.Adding.{Lent, lentKind, lentShape, recordOf, entryOf, nextState, addingOf}
 use Rattle.writer.specs.Boxes.{settled}
 use Rattle.writer.specs.Finishing.{shpHeader, shxHeader}
+use Rattle.writer.specs.State.{fresh, stateFine}
 
--- the state's words and number are those behind these shapes, the first of which stands at word 50 with number 1; a fresh state is behind none
-pub record Behind (ss : List Shape) (s : State) : Type 0 where
+-- the kind of a state behind these shapes: 0 behind none, else theirs
+abbrev pub KindBehind : Kind → List Shape → ℤ → Type 0
+KindBehind k [] code = code ≡ pos 0
+KindBehind k (s ∷ ss) code = kindAt code ≡ some k
+
+-- the state is the one behind these shapes of that kind: the first of them stands at word 50 with number 1, and every number of theirs is held
+pub record Behind (k : Kind) (ss : List Shape) (s : State) : Type 0 where
   pub words : s .words .0 ≡ pos (endFrom 50 ss)
   pub number : s .number ≡ pos (length ss + 1)
+  pub kind : KindBehind k ss (s .kind)
+  pub held : HeldFrom 1 50 ss
 
 -- the records of these shapes, and their entries
 abbrev pub records : Kind → List Shape → List ℕ
@@ -26,13 +38,21 @@ records k ss = recordsFrom k 1 ss
 abbrev pub entries : List Shape → List ℕ
 entries ss = flatten (map entryBytes (entriesFrom 50 ss))
 
--- one shape more, of the kind that the caller names: its code is the kind's
-pub record OneMore (ss : List Shape) (s : State) (t : Lent) : Type 0 where
-  pub behind : Behind (ss ++ lentShape t ∷ []) (nextState s t)
-  pub shp : shpHeader (nextState s t) ++ (records (lentKind t) ss ++ recordOf s t)
-      ≡ shpBytes (lentKind t) (boxBits (settled (nextState s t .bbox))) (ss ++ lentShape t ∷ [])
-  pub shx : shxHeader (nextState s t) ++ (entries ss ++ entryOf s t)
-      ≡ shxBytes (lentKind t) (boxBits (settled (nextState s t .bbox))) (ss ++ lentShape t ∷ [])
+-- One shape more: it is of its kind, the next state is the one behind it, and finishing that state gives its headers, since it is no refused one. The
+-- records with the new one behind them are those of the longer list, so are the entries, and with the headers in front they are its pair of files.
+pub record OneMore (k : Kind) (ss : List Shape) (s : State) (t : Lent) : Type 0 where
+  pub of-kind : OfKind (lentKind t) (lentShape t)
+  pub behind : Behind (lentKind t) (ss ++ lentShape t ∷ []) (nextState s t)
+  pub fine : stateFine (nextState s t) ≡ true
+  pub appended : records (lentKind t) (ss ++ lentShape t ∷ []) ≡ records k ss ++ recordOf s t
+  pub indexed : entries (ss ++ lentShape t ∷ []) ≡ entries ss ++ entryOf s t
+  pub pair : IsPair (lentKind t) (boxBits (settled (nextState s t .bbox))) (ss ++ lentShape t ∷ [])
+      (shpHeader (nextState s t) ++ (records k ss ++ recordOf s t))
+      (shxHeader (nextState s t) ++ (entries ss ++ entryOf s t))
+
+-- a fresh state is behind no shapes, of whatever kind
+abbrev pub Beginning : Type 0
+Beginning = (k : Kind) → Behind k [] fresh
 
 abbrev pub Appending : Type 0
-Appending = (ss : List Shape) (s : State) (t : Lent) → Behind ss s → t .code ≡ pos (lentKind t .code) → OneMore ss s t
+Appending = (k : Kind) (ss : List Shape) (s : State) (t : Lent) (out start entry n : ℕ) → Behind k ss s → addingOf s t out start entry ≡ gives n → OneMore k ss s t

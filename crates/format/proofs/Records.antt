@@ -9,8 +9,9 @@ use Rattle.format.specs.declared.kinds.Kind.{Kind}
 use Rattle.format.specs.Bytes.{le, be, field}
 use Rattle.format.specs.Encoding.{shapeBytes, shapeWords, content, twoBig, recordBytes, recordsFrom, entriesFrom, entryBytes, endFrom, Held, HeldFrom}
 use Rattle.format.specs.Numbers.{big, little}
-use Rattle.format.specs.Shapes.{Shape, null}
+use Rattle.format.specs.Shapes.{Shape, null, point, parted}
 use Rattle.format.proofs.ByteLaws.{AllBytes}
+use Rattle.format.proofs.LengthLaws.{some-words}
 use Rattle.format.proofs.NumberLaws.{length-big, length-little, length-two}
 use Rattle.format.proofs.Places.{Stands, join, front, back, le-back, be-back, le-stands, be-stands}
 
@@ -56,6 +57,13 @@ module _ (k : Kind) (n : ℕ) (s : Shape) (l : List ℕ) where
     pub code-read : k .code < 2 ^ 32 → le (field 4 (at + 8) l) ≡ k .code
     unfolding content little
     code-read h = le-back 4 (k .code) (at + 8) l h (front (at + 8) 4 (little (k .code)) (shapeBytes s) l (length-little _) in-content)
+
+-- the kind's field at least
+pub shape-least : (s : Shape) → 2 ≤ shapeWords s
+unfolding shapeWords
+shape-least null = some-words _ _ _ _ _
+shape-least (point xy z m) = some-words _ _ _ _ _
+shape-least (parted s) = some-words _ _ _ _ _
 
 -- ---- the entries of a list of shapes
 
@@ -124,3 +132,11 @@ entries-more w (r ∷ ss) s =
     let v = w + (4 + shapeWords r) in
     ap (λ (l : List ℕ). twoBig w (shapeWords r) ++ l) (entries-more v ss s)
     ∙ sym (append-assoc (twoBig w (shapeWords r)) (entriesBytes v ss) (twoBig (endFrom v ss) (shapeWords s)))
+
+-- every number of theirs is held, and every one of those behind them
+pub held-more : (n w : ℕ) (ss rs : List Shape) → HeldFrom n w ss → HeldFrom (n + length ss) (endFrom w ss) rs → HeldFrom n w (ss ++ rs)
+unfolding endFrom
+held-more n w [] rs h k = rw add-zero at k
+held-more n w (r ∷ ss) rs h k =
+    let number : n + suc (length ss) ≡ n + 1 + length ss = omega arith in
+    (h .0, h .1, h .2, h .3, h .4, held-more (n + 1) (w + (4 + shapeWords r)) ss rs (h .5) (rw number at k))

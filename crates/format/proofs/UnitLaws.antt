@@ -57,11 +57,11 @@ same-no (pos a) (negsuc b) e = refl
 same-no (negsuc a) (pos b) e = refl
 same-no (negsuc a) (negsuc b) e = ne-eqb a b (λ p. e (ap negsuc p))
 
-pub yes-same : (x y : ℤ) → sameInt x y ≡ true → x ≡ y
-yes-same (pos a) (pos b) e = ap pos (eqb-true a b e)
-yes-same (pos a) (negsuc b) e = absurd (subst T (sym e) tt)
-yes-same (negsuc a) (pos b) e = absurd (subst T (sym e) tt)
-yes-same (negsuc a) (negsuc b) e = ap negsuc (eqb-true a b e)
+pub same-is : (x y : ℤ) → sameInt x y ≡ true → x ≡ y
+same-is (pos a) (pos b) e = ap pos (eqb-true a b e)
+same-is (pos a) (negsuc b) e = absurd (subst T (sym e) tt)
+same-is (negsuc a) (pos b) e = absurd (subst T (sym e) tt)
+same-is (negsuc a) (negsuc b) e = ap negsuc (eqb-true a b e)
 
 -- and so are their doubles
 pub doubled-same : (z : ℤ) (n : ℕ) → sameInt z (pos n) ≡ sameInt (z +ℤ z) (pos (2 * n))
@@ -121,7 +121,7 @@ module _ (b : Bytes) (r : InWords) (e : saidWords r ≡ inWords b) where
       go : (t : Bool) → fits ≡ t → gives w ≡ cond t (gives (record { 0 = half b })) (wrongSize 0) → w .0 +ℤ w .0 ≡ b .0
       go true t q =
           let h : w ≡ record { 0 = half b } = cc in
-          ap (λ (x : Words). x .0 +ℤ x .0) h ∙ yes-same (half b +ℤ half b) (b .0) (both-true (inI32 (half b)) (sameInt (half b +ℤ half b) (b .0)) t .1)
+          ap (λ (x : Words). x .0 +ℤ x .0) h ∙ same-is (half b +ℤ half b) (b .0) (both-true (inI32 (half b)) (sameInt (half b +ℤ half b) (b .0)) t .1)
       go false t q = absurd (let z : _≡_ {A = ℕ} 0 1 = cc in omega arith)
 
   pub no-words : r ≡ Not → (n : ℕ) → n < 2 ^ 31 → b .0 ≡ pos (2 * n) → ⊥

@@ -33,10 +33,12 @@ pub enum Counted {
 
 // Beside each row of `KINDS` what its content takes.
 const CONTENTS: [Content; 14] = [
+    // 0 Null
     Content::Taken(Lengths {
         without: Formula { fixed: 2, point: 0 },
         with: Formula { fixed: 2, point: 0 },
     }),
+    // 1 Point
     Content::Taken(Lengths {
         without: Formula {
             fixed: 10,
@@ -47,6 +49,7 @@ const CONTENTS: [Content; 14] = [
             point: 0,
         },
     }),
+    // 3 Polyline
     Content::Taken(Lengths {
         without: Formula {
             fixed: 22,
@@ -57,6 +60,7 @@ const CONTENTS: [Content; 14] = [
             point: 8,
         },
     }),
+    // 5 Polygon
     Content::Taken(Lengths {
         without: Formula {
             fixed: 22,
@@ -67,7 +71,9 @@ const CONTENTS: [Content; 14] = [
             point: 8,
         },
     }),
+    // 8 Multipoint
     Content::NotTaken(8),
+    // 11 PointZ
     Content::Taken(Lengths {
         without: Formula {
             fixed: 18,
@@ -78,6 +84,7 @@ const CONTENTS: [Content; 14] = [
             point: 0,
         },
     }),
+    // 13 PolylineZ
     Content::Taken(Lengths {
         without: Formula {
             fixed: 30,
@@ -88,6 +95,7 @@ const CONTENTS: [Content; 14] = [
             point: 16,
         },
     }),
+    // 15 PolygonZ
     Content::Taken(Lengths {
         without: Formula {
             fixed: 30,
@@ -98,7 +106,9 @@ const CONTENTS: [Content; 14] = [
             point: 16,
         },
     }),
+    // 18 MultipointZ
     Content::NotTaken(18),
+    // 21 PointM
     Content::Taken(Lengths {
         without: Formula {
             fixed: 14,
@@ -109,6 +119,7 @@ const CONTENTS: [Content; 14] = [
             point: 0,
         },
     }),
+    // 23 PolylineM
     Content::Taken(Lengths {
         without: Formula {
             fixed: 22,
@@ -119,6 +130,7 @@ const CONTENTS: [Content; 14] = [
             point: 12,
         },
     }),
+    // 25 PolygonM
     Content::Taken(Lengths {
         without: Formula {
             fixed: 22,
@@ -129,7 +141,9 @@ const CONTENTS: [Content; 14] = [
             point: 12,
         },
     }),
+    // 28 MultipointM
     Content::NotTaken(28),
+    // 31 Multipatch
     Content::NotTaken(31),
 ];
 

@@ -2,19 +2,21 @@
 use mathlib.Core.Path.{_≡_, refl, ap, _∙_}
 use mathlib.Core.Bool.{Bool, true, false, cond, _&&_}
 use mathlib.Core.List.{List, [], _∷_, _++_, map, flatten}
+use mathlib.Core.Option.{some}
 use Prim.Native.Nat.{ℕ, suc, _+_, _*_, _/_, _%_, _≤_}
 use native.Mathlib.Omega.{arith}
 use lib.Dec.{eqb}
 use lib.Ieee.{Float}
-use lib.ListN.{length, take, drop, length-append, length-drop, take-append-drop}
+use lib.ListN.{length, take, drop, length-append, length-drop, length-map, take-append-drop}
 use lib.Seq.{length-take-le}
 use borrow.Author.Tests.{eqb-true}
+use Rattle.format.specs.declared.kinds.Kind.{Kind}
 use Rattle.format.specs.Encoding.{doubles, pointBytes, startsFrom, shapeWords}
-use Rattle.format.specs.Lengths.{parts, contentWords}
+use Rattle.format.specs.Lengths.{parts, formOf, contentWords}
 use Rattle.format.specs.Numbers.{little, f64sLe}
-use Rattle.format.specs.Shapes.{Point, parted, there, sum}
+use Rattle.format.specs.Shapes.{Point, parted, there, Covers, OnlyIf, OfKind, partsIn, pointsIn, sum}
 use Rattle.format.specs.WellFormed.{coordinates}
-use Rattle.format.proofs.Equations.{startsFrom-nil, startsFrom-cons, words-parted}
+use Rattle.format.proofs.Equations.{startsFrom-nil, startsFrom-cons, parts-parted, points-parted, words-parted}
 use Rattle.format.proofs.Laid.{points-doubles}
 use Rattle.format.proofs.NumberLaws.{length-little, doubles-bits}
 use Rattle.format.proofs.OrderLaws.{both-true}
@@ -97,11 +99,49 @@ pub there-measure : (flag : Bool) (low high : Float) (vs : List Float) → there
 there-measure true low high vs = refl
 there-measure false low high vs = refl
 
-pub parts-words : (z m : Bool) (b : BBoxZ) (counts : List ℕ) (xy zs ms : List Float) → length xy ≡ 2 * sum counts → shapeWords (parted (partsOf z m b counts xy zs ms)) ≡ contentWords parts z m (length counts) (sum counts)
-unfolding partsOf
-parts-words z m b counts xy zs ms e =
+all-points : (counts : List ℕ) (xy : List Float) → length xy ≡ 2 * sum counts → length (flatten (splitBy counts (pointsOf xy))) ≡ sum counts
+all-points counts xy e =
     let n : sum counts ≡ length (pointsOf xy) = omega (arith, length-points xy) in
-    rw (words-parted, there-measure z (b .zmin) (b .zmax) zs, there-measure m (b .mmin) (b .mmax) ms, split-length counts (pointsOf xy), split-whole counts (pointsOf xy) n, n)
+    rw (split-whole counts (pointsOf xy) n, n)
+
+module _ (z m : Bool) (b : BBoxZ) (counts : List ℕ) (xy zs ms : List Float) where
+  pub parts-in : partsIn (parted (partsOf z m b counts xy zs ms)) ≡ length counts
+  unfolding partsOf
+  parts-in = rw (parts-parted, split-length counts (pointsOf xy))
+
+  module _ (e : length xy ≡ 2 * sum counts) where
+    pub points-in : pointsIn (parted (partsOf z m b counts xy zs ms)) ≡ sum counts
+    unfolding partsOf
+    points-in = rw (points-parted, all-points counts xy e)
+
+    pub parts-words : shapeWords (parted (partsOf z m b counts xy zs ms)) ≡ contentWords parts z m (length counts) (sum counts)
+    unfolding partsOf
+    parts-words =
+        rw (words-parted, there-measure z (b .zmin) (b .zmax) zs, there-measure m (b .mmin) (b .mmax) ms, split-length counts (pointsOf xy), all-points counts xy e)
+
+-- it is of the kind whose flags the layout has
+
+module _ (low high : Float) (vs : List Float) where
+  only-if : (flag : Bool) → OnlyIf flag (measureOf flag low high vs)
+  only-if true = tt
+  only-if false = refl
+
+  covers : (n : ℕ) (flag : Bool) → length vs ≡ cond flag n 0 → Covers n (measureOf flag low high vs)
+  covers n true e = length-map vs bits ∙ e
+  covers n false e = tt
+
+pub parts-of-kind : (k : Kind) (b : BBoxZ) (counts : List ℕ) (xy zs ms : List Float) → formOf k ≡ some parts → Agreed (k .z) (k .m) (sum counts) xy zs ms
+    → OfKind k (parted (partsOf (k .z) (k .m) b counts xy zs ms))
+unfolding partsOf
+parts-of-kind k b counts xy zs ms f a =
+    let n = all-points counts xy (a .xy-has) in
+    record {
+      form = f;
+      has-z = there-measure (k .z) (b .zmin) (b .zmax) zs;
+      may-have-m = only-if (b .mmin) (b .mmax) ms (k .m);
+      covers-z = rw n (covers (b .zmin) (b .zmax) zs (sum counts) (k .z) (a .zs-has));
+      covers-m = rw n (covers (b .mmin) (b .mmax) ms (sum counts) (k .m) (a .ms-has));
+    }
 
 pub length-starts : (counts : List ℕ) (a : ℕ) → length (startsBytes a counts) ≡ 4 * length counts
 unfolding startsBytes

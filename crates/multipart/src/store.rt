@@ -53,6 +53,14 @@ fn store_doubles(s: &[u8], at: usize, k: usize, out: &mut [f64])
     fields::read_doubles(s, at, &mut out[0..k]);
 }
 
+// The pairs of so many points behind the p starts: from the first pair on, whatever the starts are.
+fn store_pairs(s: &[u8], p: usize, points: usize, xy: &mut [f64])
+    requires { ⌜ (40 + 4 * p + 16 * points ≤ length (now s)) × (2 * points ≤ length (now xy)) ⌝ }
+    ensures { λ _. ⌜ now (xy .exit) ≡ sets (now (xy .entry)) 0 (doublesAt (2 * points) (40 + 4 * p) (now (s .entry))) ⌝ }
+{
+    store_doubles(s, 40 + 4 * p, 2 * points, xy);
+}
+
 // The n values behind a range, where the flag is set.
 fn store_z(s: &[u8], z: bool, n: usize, at: usize, zs: &mut [f64])
     requires { ⌜ (endAfter z n at ≤ length (now s)) × (cond z n 0 ≤ length (now zs)) ⌝ }
@@ -172,10 +180,9 @@ pub(crate) fn store_body(
     requires { ⌜ Ready z m (now s) p n points (length (now counts)) (length (now xy)) (length (now zs)) (length (now ms)) ⌝ }
     ensures { λ r. ⌜ Stores z m (now (s .entry)) (now (counts .entry)) (now (xy .entry)) (now (zs .entry)) (now (ms .entry)) r (now (counts .exit)) (now (xy .exit)) (now (zs .exit)) (now (ms .exit)) ⌝ }
 {
-    let pairs = 40 + 4 * p;
-    let end = pairs + 16 * points;
+    let end = 40 + 4 * p + 16 * points;
     store_counts(s, p, n, counts);
-    store_doubles(s, pairs, 2 * points, xy);
+    store_pairs(s, p, points, xy);
     store_z(s, z, points, end, zs);
     store_m(s, m, points, judge::end_after(z, points, end), ms);
     body_at(s, z, m, p, points, end)

@@ -1,4 +1,5 @@
 -- Laws of the writer, and that its contracts determine what comes back.
+pub mod Accepted
 mod AddLaws
 mod BodyLaws
 mod BoxLaws

@@ -8,7 +8,7 @@ use native.Mathlib.Omega.{arith}
 use lib.Dec.{T, leb, eqb}
 use lib.IntN.{ℤ, pos, negsuc, natAbs}
 use lib.Signed.{ltZ, mag}
-use borrow.Author.Tests.{ltb-true, leb-true}
+use borrow.Author.Tests.{ltb-true, leb-true, eqb-true}
 use Rattle.format.specs.declared.kinds.Kind.{Kind}
 use Rattle.format.specs.declared.lengths.Formula.{Formula}
 use Rattle.format.specs.Kinds.{known, kindAt}
@@ -83,6 +83,10 @@ some-kind : (o : Option Kind) → isTaken (byKind o) ≡ true → there o ≡ tr
 some-kind none e = e
 some-kind (some k) e = refl
 
+at-first : (z : Bool) (w n : ℕ) → not z || (eqb w 50 && eqb n 1) ≡ true → z ≡ true → n ≡ 1
+at-first true w n e h = eqb-true n 1 (both-true (eqb w 50) (eqb n 1) e .1)
+at-first false w n e h = absurd (subst T (sym h) tt)
+
 pub record Fine (s : State) : Type 0 where
   pub words-is : s .words .0 ≡ pos (natAbs (s .words .0))
   pub number-is : s .number ≡ pos (natAbs (s .number))
@@ -90,6 +94,7 @@ pub record Fine (s : State) : Type 0 where
   pub room : 50 + 6 * (natAbs (s .number) - 1) ≤ natAbs (s .words .0)
   pub kind-is : s .kind ≡ pos (natAbs (s .kind))
   pub kind-known : known (pos (natAbs (s .kind))) ≡ true
+  pub at-start : isZero (s .kind) ≡ true → natAbs (s .number) ≡ 1
 
 pub fine : (s : State) → stateFine s ≡ true → Fine s
 unfolding stateFine lookUp
@@ -108,6 +113,7 @@ fine s e =
       room = leb-true _ _ (p3 .1);
       kind-is = k;
       kind-known = sym (ap known k) ∙ (known-there (s .kind) ∙ some-kind (kindAt (s .kind)) (sym (taken-is (s .kind)) ∙ p2 .1));
+      at-start = at-first (isZero (s .kind)) (natAbs (s .words .0)) (natAbs (s .number)) (p4 .1);
     }
 
 -- its numbers without their signs, and the words of its index

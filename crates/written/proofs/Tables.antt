@@ -1,5 +1,5 @@
 -- The shape of tables that agree: its doubles have 64 bits, and what a reader has to say of it is what was lent.
-use mathlib.Core.Path.{_≡_, refl, sym, _∙_}
+use mathlib.Core.Path.{_≡_, refl, sym}
 use mathlib.Core.Bool.{Bool, true, false, cond}
 use mathlib.Core.List.{List, [], _∷_, map}
 use Prim.Native.Nat.{ℕ, zero, suc, _^_, _<_}
@@ -9,7 +9,6 @@ use lib.Ieee.{Float, binary64, fits}
 use lib.Ieee.Bits.{ofBits-toBits, toBits-lt}
 use lib.ListN.{length}
 use Rattle.format.specs.Bytes.{Fit}
-use Rattle.format.specs.Shapes.{Covers, OnlyIf}
 use Rattle.layouts.specs.Tables.{bits, pointsOf, measureOf}
 use Rattle.writer.specs.Adding.{valueOf}
 use Rattle.writer.proofs.ShapeLaws.{empty}
@@ -36,17 +35,9 @@ pub all-held : (xs : List Float) → AllDoubles xs → Fit 8 (map bits xs)
 all-held [] f = tt
 all-held (x ∷ xs) f = (held x (f .0), all-held xs (f .1))
 
-length-bits : (xs : List Float) → length (map bits xs) ≡ length xs
-length-bits [] = refl
-length-bits (x ∷ xs) = omega (arith, length-bits xs)
-
 -- ---- z or m, where the flag gives it
 
 module _ (low high : Float) (vs : List Float) where
-  pub only-if : (flag : Bool) → OnlyIf flag (measureOf flag low high vs)
-  only-if true = tt
-  only-if false = refl
-
   pub range-is : (flag : Bool) → T (fits binary64 low) → T (fits binary64 high) → rangeOf (measureOf flag low high vs) ≡ rangeIf flag low high
   range-is true f g =
       let l = back low f in
@@ -58,14 +49,9 @@ module _ (low high : Float) (vs : List Float) where
   measure-held true f g h = (held low f, (held high g, all-held vs h))
   measure-held false f g h = tt
 
-  module _ (n : ℕ) where
-    pub covers : (flag : Bool) → length vs ≡ cond flag n 0 → Covers n (measureOf flag low high vs)
-    covers true e = length-bits vs ∙ e
-    covers false e = tt
-
-    pub values-are : (flag : Bool) → length vs ≡ cond flag n 0 → AllDoubles vs → valuesOf (measureOf flag low high vs) ≡ vs
-    values-are true e f = all-back vs f
-    values-are false e f = sym (empty vs e)
+  pub values-are : (n : ℕ) (flag : Bool) → length vs ≡ cond flag n 0 → AllDoubles vs → valuesOf (measureOf flag low high vs) ≡ vs
+  values-are n true e f = all-back vs f
+  values-are n false e f = sym (empty vs e)
 
 -- ---- one point
 

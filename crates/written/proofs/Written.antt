@@ -1,38 +1,39 @@
 -- The theorem, by the form of the kind: nothing, one point, or parts.
-use mathlib.Core.Path.{_≡_, refl, ap, _∙_}
+use mathlib.Core.Path.{_≡_, refl, sym, ap, _∙_}
 use mathlib.Core.Bool.{Bool, true, false, cond}
 use mathlib.Core.List.{List, map, flatten}
 use mathlib.Core.Option.{Option}
 use Prim.Native.Nat.{ℕ, _≤_}
 use native.Mathlib.Omega.{arith}
-use lib.Dec.{eqb}
 use lib.IntN.{natAbs}
 use lib.ListN.{length, drop}
 use lib.Seq.{drop-at}
 use Rattle.format.specs.Encoding.{twoBig, content, shapeWords}
+use Rattle.format.specs.Kinds.{kindAt}
 use Rattle.format.specs.Lengths.{Form, nothing, onePoint}
 use Rattle.format.specs.Lengths
 use Rattle.format.specs.Said.{gives}
-use Rattle.format.specs.Shapes.{Point, Measure, Parts, Shape, point, parted, there, OfKind, sum}
+use Rattle.format.specs.Shapes.{Point, Measure, Parts, Shape, point, parted, there, sum}
 use Rattle.format.specs.WellFormed
 use Rattle.format.proofs.Equations.{record-is}
 use Rattle.format.proofs.NumberLaws.{length-two}
+use Rattle.rules.specs.Meaning.{TakenKind}
 use Rattle.multipart.specs.Body.{raised}
 use Rattle.layouts.specs.Steps.{Agreed}
 use Rattle.layouts.specs.Tables.{bits, pointsOf, splitBy, measureOf, boxOf}
-use Rattle.layouts.proofs.TableLaws.{agreed, length-points, points-are, split-length, split-whole, split-counts, parts-are, there-measure}
+use Rattle.layouts.proofs.TableLaws.{length-points, points-are, split-length, split-whole, split-counts, parts-are, there-measure}
+use Rattle.writer.specs.declared.State.{State}
 use Rattle.writer.specs.Adding.{Lent, lentKind, lentForm, valueOf, pointShape, lentShape}
-use Rattle.writer.proofs.ShapeLaws.{lent-nothing, lent-point, lent-parts, there-value}
+use Rattle.writer.proofs.Accepted.{Accepted, accepted, code, point-tables, parts-tables, shape-fits}
+use Rattle.writer.proofs.ShapeLaws.{lent-nothing, lent-point, lent-parts}
 use Rattle.readback.specs.Held.{Held}
 use Rattle.readback.specs.ReadBack.{value, shapedAs, Roomy, StoresShape}
 use Rattle.readback.proofs.ReadsBack.{reads-back}
 use Rattle.written.specs.Written.{Typed, valueAt, shapedBy, Room, TablesIn, written, ReadsWritten}
-use Rattle.written.proofs.Accepted.{Accepted, accepted}
-use Rattle.written.proofs.Tables.{back, held, all-back, all-held, only-if, range-is, measure-held, covers, values-are, double-at, points-one, value-held, value-is}
+use Rattle.written.proofs.Tables.{back, held, all-back, all-held, range-is, measure-held, values-are, double-at, points-one, value-held, value-is}
 
 -- what the theorem needs of the shape that was lent, where its form is this one
 record Fine (t : Lent) (form : Form) (s : Shape) : Type 0 where
-  of-kind : OfKind (lentKind t) s
   held : Held s
   shaped : shapedAs (lentKind t) s ≡ shapedBy form t
   room : (counts xy zs ms : ℕ) → (form ≡ Lengths.parts → Room t counts xy zs ms) → Roomy s counts xy zs ms
@@ -42,10 +43,10 @@ has-room : (flag : Bool) (n have store : ℕ) → have ≡ cond flag n 0 → hav
 has-room true n have store e h f = omega arith
 has-room false n have store e h f = absurd (let z : _≡_ {A = ℕ} 0 1 = cc in omega arith)
 
-module _ (t : Lent) (a : Accepted t) (d : Typed t) where
+module _ (s : State) (t : Lent) (a : Accepted s t) (d : Typed t) where
   module _ (form : lentForm t ≡ Lengths.parts) where
     agree : Agreed (lentKind t .z) (lentKind t .m) (sum (t .counts)) (t .xy) (t .zs) (t .ms)
-    agree = agreed true (lentKind t .z) (lentKind t .m) (sum (t .counts)) (t .xy) (t .zs) (t .ms) (rw form at (a .agree)) .1
+    agree = parts-tables s t a form
 
     points : sum (t .counts) ≡ length (pointsOf (t .xy))
     points = omega (arith, agree .xy-has, length-points (t .xy))
@@ -100,13 +101,6 @@ module _ (t : Lent) (a : Accepted t) (d : Typed t) where
         let b = t .box in
         let f = d .box in
         record {
-          of-kind = record {
-            form = rw form at (a .form);
-            has-z = z-there;
-            may-have-m = only-if (b .mmin) (b .mmax) (t .ms) (k .m);
-            covers-z = rw (whole, ← points) (covers (b .zmin) (b .zmax) (t .zs) (sum (t .counts)) (k .z) (agree .zs-has));
-            covers-m = rw (whole, ← points) (covers (b .mmin) (b .mmax) (t .ms) (sum (t .counts)) (k .m) (agree .ms-has));
-          };
           held = record {
             box = (held (b .xmin) (f .xmin), (held (b .ymin) (f .ymin), (held (b .xmax) (f .xmax), (held (b .ymax) (f .ymax), tt))));
             points = rw (whole, coordinates) (all-held (t .xy) (d .xy));
@@ -115,7 +109,7 @@ module _ (t : Lent) (a : Accepted t) (d : Typed t) where
           };
           shaped =
               rw (
-                ← a .code,
+                ← code s t a,
                 m-there,
                 back (b .xmin) (f .xmin),
                 back (b .ymin) (f .ymin),
@@ -133,7 +127,7 @@ module _ (t : Lent) (a : Accepted t) (d : Typed t) where
 
   module _ (form : lentForm t ≡ onePoint) where
     agree-one : Agreed (lentKind t .z) (lentKind t .m) 1 (t .xy) (t .zs) (t .ms)
-    agree-one = agreed (eqb (length (t .counts)) 0) (lentKind t .z) (lentKind t .m) 1 (t .xy) (t .zs) (t .ms) (rw form at (a .agree)) .1
+    agree-one = point-tables s t a form
 
     abbrev place : Point
     place = record { x = bits (valueAt 0 (t .xy)); y = bits (valueAt 1 (t .xy)) }
@@ -150,11 +144,6 @@ module _ (t : Lent) (a : Accepted t) (d : Typed t) where
         let x = double-at (t .xy) 0 (d .xy) (omega (arith, agree-one .xy-has)) in
         let y = double-at (t .xy) 1 (d .xy) (omega (arith, agree-one .xy-has)) in
         record {
-          of-kind = record {
-            form = rw form at (a .form);
-            has-z = there-value (k .z) (t .zs) (agree-one .zs-has);
-            has-m = there-value (k .m) (t .ms) (agree-one .ms-has);
-          };
           held = record {
             x-held = held (valueAt 0 (t .xy)) x;
             y-held = held (valueAt 1 (t .xy)) y;
@@ -163,7 +152,7 @@ module _ (t : Lent) (a : Accepted t) (d : Typed t) where
           };
           shaped =
               rw (
-                ← a .code,
+                ← code s t a,
                 back (valueAt 0 (t .xy)) x,
                 back (valueAt 1 (t .xy)) y,
                 value-is (k .z) (t .zs) (agree-one .zs-has) (d .zs),
@@ -177,7 +166,6 @@ module _ (t : Lent) (a : Accepted t) (d : Typed t) where
   all-fine nothing e =
       rw (lent-nothing t e)
       (record {
-        of-kind = rw e at (a .form);
         held = tt;
         shaped = refl;
         room = λ counts xy zs ms r. tt;
@@ -190,8 +178,9 @@ pub reads-written : ReadsWritten
 reads-written s t out start entry n e d small =
     let k = lentKind t in
     let a = accepted s t out start entry n e in
-    let fine = all-fine t a d (lentForm t) refl in
-    let back = reads-back k (lentShape t) (a .taken) (fine .of-kind) (fine .held) small in
+    let fine = all-fine s t a d (lentForm t) refl in
+    let taken : TakenKind k = record { form = lentForm t; in-table = ap kindAt (sym (code s t a)) ∙ a .kind; taken = a .form } in
+    let back = reads-back k (lentShape t) taken (shape-fits s t a .of-kind) (fine .held) small in
     let head : List ℕ = twoBig (natAbs (s .number)) (shapeWords (lentShape t)) in
     let is : written s t ≡ content k (lentShape t) = ap (drop 8) (record-is k (natAbs (s .number)) (lentShape t)) ∙ drop-at head (content k (lentShape t)) 8 (length-two (natAbs (s .number)) (shapeWords (lentShape t))) in
     record {

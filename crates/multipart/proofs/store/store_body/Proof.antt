@@ -15,26 +15,23 @@ use Rattle.multipart.proofs.store.store_body.Tie as tie
 inside : (c : tie.Start) → endAfter (c .args .m) (c .args .points) (endAfter (c .args .z) (c .args .points) (40 + 4 * c .args .p + 16 * c .args .points)) ≤ length (c .args .s .now)
 inside c = all-inside (c .args .z) (c .args .m) (c .args .s .now) (c .args .p) (c .args .n) (c .args .points) _ _ _ _ (c .pre)
 
-mul-pairs : tie.Need-mul-pairs
-mul-pairs c = omega (arith, inside (c .before .before .before .before .before))
-
-add-pairs : tie.Need-add-pairs
-add-pairs c = omega (arith, inside (c .before .before .before .before .before))
-
 mul-end : tie.Need-mul-end
 mul-end c = omega (arith, inside (c .before .before .before .before .before))
 
 add-end : tie.Need-add-end
 add-end c = omega (arith, inside (c .before .before .before .before .before))
 
+mul-end-2 : tie.Need-mul-end-2
+mul-end-2 c = omega (arith, inside (c .before .before .before .before .before))
+
+add-end-2 : tie.Need-add-end-2
+add-end-2 c = omega (arith, inside (c .before .before .before .before .before))
+
 store-counts-requires : tie.Need-store-counts-requires
 store-counts-requires c κs = let a = c .before .before .before .before .before .before in (omega (arith, inside a), counts-room _ _ _ _ _ _ _ _ _ _ (a .pre))
 
-mul-store-doubles : tie.Need-mul-store-doubles
-mul-store-doubles c = omega (arith, inside (c .before .before .before .before .before .before .before .before .before))
-
-store-doubles-requires : tie.Need-store-doubles-requires
-store-doubles-requires c κs = let a = c .before .before .before .before .before .before .before .before .before .before in (omega (arith, inside a), xy-room _ _ _ _ _ _ _ _ _ _ (a .pre))
+store-pairs-requires : tie.Need-store-pairs-requires
+store-pairs-requires c κs = let a = c .before .before .before .before .before .before .before .before .before .before in (omega (arith, inside a), xy-room _ _ _ _ _ _ _ _ _ _ (a .pre))
 
 store-z-requires : tie.Need-store-z-requires
 store-z-requires c κs = let a = c .before .before .before .before .before .before .before .before .before .before .before .before .before .before in (omega (arith, inside a), z-room _ _ _ _ _ _ _ _ _ _ (a .pre))
@@ -57,7 +54,7 @@ returns c =
     record {
       body-is = c .body-at .ensures;
       counts-are = (rw (toZ-ofZ w32 (a .args .n) (a .fits .n)) at (c .before .before .before .before .before .before .before .before .before .before .before .before .before .before .before .before .store-counts .ensures)) ∙ ap (sets (a .args .counts .now) 0) (counts-here _ _ _ (a .pre .parts-are) (a .pre .number-is));
-      xy-are = c .before .before .before .before .before .before .before .before .before .before .before .before .store-doubles .ensures ∙ ap (sets (a .args .xy .now) 0) (xy-here _ _ _ (a .pre .parts-are) (a .pre .points-are));
+      xy-are = c .before .before .before .before .before .before .before .before .before .before .before .before .store-pairs .ensures ∙ ap (sets (a .args .xy .now) 0) (xy-here _ _ _ (a .pre .parts-are) (a .pre .points-are));
       z-are = c .before .before .before .before .before .before .before .before .store-z .ensures ∙ ap (sets (a .args .zs .now) 0) (z-here _ _ _ (a .pre .parts-are) (a .pre .points-are) _);
       m-are = (rw (c .before .before .before .before .before .end-after .ensures) at (c .before .before .before .store-m .ensures)) ∙ ap (sets (a .args .ms .now) 0) (m-here _ _ _ (a .pre .parts-are) (a .pre .points-are) _ _);
     }
@@ -66,13 +63,12 @@ pub store-body-spec : {M : Type 1} → statement M
 store-body-spec =
     tie.close
     (tie.spec
-    mul-pairs
-    add-pairs
     mul-end
     add-end
+    mul-end-2
+    add-end-2
     store-counts-requires
-    mul-store-doubles
-    store-doubles-requires
+    store-pairs-requires
     store-z-requires
     end-after-requires
     store-m-requires

@@ -1,0 +1,137 @@
+-- An add that was taken passed every test: what follows of its kind, of the shape that was lent, and of the next state.
+use mathlib.Core.Path.{_≡_, refl}
+use mathlib.Core.Bool.{Bool, true, false, not, _||_}
+use mathlib.Core.List.{List, [], _∷_}
+use mathlib.Core.Option.{Option, none, some}
+use Prim.Native.Nat.{ℕ, _+_, _*_, _-_, _^_, _≤_, _<_}
+use native.Mathlib.Omega.{arith}
+use lib.Dec.{eqb}
+use lib.Ieee.{Float}
+use lib.IntN.{pos, natAbs}
+use lib.ListN.{length}
+use borrow.Author.Tests.{ltb-true, not-true, le-leb}
+use Rattle.format.specs.declared.kinds.Kind.{Kind}
+use Rattle.format.specs.Encoding.{Held}
+use Rattle.format.specs.Kinds.{kindAt, kindOr}
+use Rattle.format.specs.Lengths.{Form, nothing, onePoint, formOf, formIn, formAt}
+use Rattle.format.specs.Lengths
+use Rattle.format.specs.Said.{gives}
+use Rattle.format.specs.Shapes.{Shape, there, OfKind, partsIn, pointsIn, sum}
+use Rattle.format.specs.Units.{sameInt}
+use Rattle.format.proofs.Equations.{parts-null, points-null, parts-point, points-point}
+use Rattle.format.proofs.KindLaws.{code-is}
+use Rattle.format.proofs.OrderLaws.{both-true, passed}
+use Rattle.format.proofs.Records.{shape-least}
+use Rattle.format.proofs.UnitLaws.{same-is}
+use Rattle.layouts.specs.Answers.{countsHeld}
+use Rattle.layouts.specs.Steps.{Agreed}
+use Rattle.layouts.proofs.TableLaws.{agreed, parts-in, points-in, parts-of-kind}
+use Rattle.writer.specs.declared.State.{State}
+use Rattle.writer.specs.Adding.{Lent, formOr, lentKind, lentForm, pointShape, lentShape, lentAgree, wordsThen, recordSize, addTests, nextState, addingOf}
+use Rattle.writer.specs.State.{isZero, stateFine}
+use Rattle.writer.proofs.ShapeLaws.{lent-nothing, lent-point, lent-parts, there-value}
+use Rattle.writer.proofs.StateLaws.{Fine, fine}
+
+pub record Accepted (s : State) (t : Lent) : Type 0 where
+  pub fine : Fine s
+  pub kind : kindAt (t .code) ≡ some (lentKind t)
+  pub form : formOf (lentKind t) ≡ some (lentForm t)
+  pub not-null : isZero (t .code) ≡ false
+  pub same-kind : isZero (s .kind) || sameInt (s .kind) (t .code) ≡ true
+  pub agree : lentAgree t ≡ true
+  pub counts-held : countsHeld (t .counts) ≡ true
+  pub held : wordsThen s t < 2 ^ 31
+
+-- a kind that has a form is in the table
+form-there : (o : Option Form) → there o ≡ true → o ≡ some (formOr o)
+form-there none e = absurd (let z : _≡_ {A = ℕ} 0 1 = cc in omega arith)
+form-there (some form) e = refl
+
+kind-there : (o : Option Kind) → there (formIn o) ≡ true → (o ≡ some (kindOr o)) × (formOf (kindOr o) ≡ some (formOr (formIn o)))
+kind-there none e = absurd (let z : _≡_ {A = ℕ} 0 1 = cc in omega arith)
+kind-there (some k) e = (refl, form-there (formOf k) e)
+
+pub accepted : (s : State) (t : Lent) (out start entry n : ℕ) → addingOf s t out start entry ≡ gives n → Accepted s t
+unfolding addingOf
+accepted s t out start entry n e =
+    let ok = passed (recordSize t) n (addTests s t out start entry) tt e in
+    let taken = both-true (there (formAt (t .code))) (not (isZero (t .code))) (ok 2) in
+    let found = kind-there (kindAt (t .code)) (taken .0) in
+    let held = both-true _ _ (ok 5) in
+    record {
+      fine = fine s (ok 0);
+      kind = found .0;
+      form = found .1;
+      not-null = not-true _ (taken .1);
+      same-kind = ok 3;
+      agree = ok 4;
+      counts-held = held .0;
+      held = ltb-true _ _ (held .1);
+    }
+
+-- ---- the shape that was lent
+
+pub record Fits (k : Kind) (s : Shape) : Type 0 where
+  pub of-kind : OfKind k s
+  pub parts-held : Held (partsIn s)
+  pub points-held : Held (pointsIn s)
+
+point-fits : (k : Kind) (xy zs ms : List Float) → formOf k ≡ some onePoint → Agreed (k .z) (k .m) 1 xy zs ms → Fits k (pointShape k xy zs ms)
+point-fits k [] zs ms f a = absurd (omega (arith, a .xy-has))
+point-fits k (x ∷ []) zs ms f a = absurd (omega (arith, a .xy-has))
+point-fits k (x ∷ y ∷ xy) zs ms f a =
+    record {
+      of-kind = record { form = f; has-z = there-value (k .z) zs (a .zs-has); has-m = there-value (k .m) ms (a .ms-has) };
+      parts-held = rw parts-point (omega arith);
+      points-held = rw points-point (omega arith);
+    }
+
+module _ (s : State) (t : Lent) (a : Accepted s t) where
+  pub code : t .code ≡ pos (lentKind t .code)
+  code = code-is (t .code) (lentKind t) (a .kind)
+
+  -- the tables agree on their points, by the form
+  pub point-tables : lentForm t ≡ onePoint → Agreed (lentKind t .z) (lentKind t .m) 1 (t .xy) (t .zs) (t .ms)
+  point-tables e = agreed (eqb (length (t .counts)) 0) (lentKind t .z) (lentKind t .m) 1 (t .xy) (t .zs) (t .ms) (rw e at (a .agree)) .1
+
+  pub parts-tables : lentForm t ≡ Lengths.parts → Agreed (lentKind t .z) (lentKind t .m) (sum (t .counts)) (t .xy) (t .zs) (t .ms)
+  parts-tables e = agreed true (lentKind t .z) (lentKind t .m) (sum (t .counts)) (t .xy) (t .zs) (t .ms) (rw e at (a .agree)) .1
+
+  pub shape-fits : Fits (lentKind t) (lentShape t)
+  shape-fits = go (lentForm t) refl
+    where
+      go : (form : Form) → lentForm t ≡ form → Fits (lentKind t) (lentShape t)
+      go nothing e =
+          rw (lent-nothing t e) (record { of-kind = rw e at (a .form); parts-held = rw parts-null (omega arith); points-held = rw points-null (omega arith) })
+      go onePoint e = rw (lent-point t e) (point-fits (lentKind t) (t .xy) (t .zs) (t .ms) (rw e at (a .form)) (point-tables e))
+      go Lengths.parts e =
+          let k = lentKind t in
+          let u = parts-tables e in
+          let held = both-true _ _ (a .counts-held) in
+          rw (lent-parts t e)
+          (record {
+            of-kind = parts-of-kind k (t .box) (t .counts) (t .xy) (t .zs) (t .ms) (rw e at (a .form)) u;
+            parts-held = rw (parts-in (k .z) (k .m) (t .box) (t .counts) (t .xy) (t .zs) (t .ms)) (ltb-true _ _ (held .0));
+            points-held = rw (points-in (k .z) (k .m) (t .box) (t .counts) (t .xy) (t .zs) (t .ms) (u .xy-has)) (ltb-true _ _ (held .1));
+          })
+
+  -- ---- the state: behind a record its kind is the one that is added, and the next state is one
+
+  pub kind-stays : (natAbs (s .number) ≡ 1 → ⊥) → s .kind ≡ t .code
+  kind-stays h = go (isZero (s .kind)) refl (a .same-kind)
+    where
+      go : (b : Bool) → isZero (s .kind) ≡ b → b || sameInt (s .kind) (t .code) ≡ true → s .kind ≡ t .code
+      go true e p = absurd (h (a .fine .at-start e))
+      go false e p = same-is (s .kind) (t .code) p
+
+  pub next-room : 50 + 6 * natAbs (s .number) ≤ wordsThen s t
+  next-room = omega (arith, a .fine .room, a .fine .number-least, shape-least (lentShape t))
+
+  pub next-fine : stateFine (nextState s t) ≡ true
+  unfolding stateFine nextState
+  next-fine =
+      let n = natAbs (s .number) in
+      let least : 50 ≤ wordsThen s t = omega (arith, next-room) in
+      let room : 50 + 6 * (n + 1 - 1) ≤ wordsThen s t = omega (arith, next-room) in
+      let taken : there (formAt (t .code)) ≡ true = rw (a .kind, a .form) in
+      rw (le-leb 50 (wordsThen s t) least, le-leb 1 (n + 1) (omega arith), taken, le-leb (50 + 6 * (n + 1 - 1)) (wordsThen s t) room, a .not-null)
