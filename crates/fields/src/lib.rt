@@ -127,11 +127,11 @@ pub fn bits(x: f64) -> u64
 pub fn same_number(a: u64, b: u64) -> bool
     ensures { λ r. ⌜ r ≡ sameNumber a b ⌝ }
 {
-    let p = a % SIGN;
-    if INFINITY < p {
+    let rest = a % SIGN;
+    if INFINITY < rest {
         return false;
     }
-    if p == 0 {
+    if rest == 0 {
         return b % SIGN == 0;
     }
     a == b

@@ -75,21 +75,30 @@ beside p l true true = sym (le-ltb p p (omega arith))
 apart : (s t : Bool) (p q : ℕ) → (p ≡ q → ⊥) → false ≡ level s p t q
 apart s t p q n = rw (ne-eqb p q n)
 
+-- a comparison that every growing function keeps
 abbrev Kept : (ℕ → ℕ → Bool) → Type 0
 Kept K = (g : ℕ → ℕ) → g 0 ≡ 0 → ((a b : ℕ) → a < b → g a < g b) → (a b : ℕ) → K a b ≡ K (g a) (g b)
 
 scaled : (K : ℕ → ℕ → Bool) → Kept K → (c : ℕ) → 0 < c → (a b : ℕ) → K a b ≡ K (a * c) (b * c)
 scaled K k c h a b = k (λ x. x * c) (zero-mul c) (λ x y l. mul-lt-mul-of-pos-right l h) a b
 
--- ---- the number behind the sign grows with the value
+-- ---- values that compare as two signs and numbers do: n, where neither is a NaN
+
+abbrev pub Compares : Bool → Float → Float → Bool → ℕ → Bool → ℕ → Type 0
+Compares n x y s p t q = (lt x y ≡ n && below s p t q) × (eq x y ≡ n && level s p t q)
+
+nan-right : (x : Float) → (lt x nan ≡ false) × (eq x nan ≡ false)
+unfolding lt eq
+nan-right nan = (refl, refl)
+nan-right (inf s) = (refl, refl)
+nan-right (fin s m e) = (refl, refl)
+
+-- ---- the value grows with the number behind the sign
 
 ones-infinite : (f : Format) (s : Bool) → ofFields f s (ones f) 0 ≡ inf s
 unfolding ofFields
 ones-infinite binary32 s = refl
 ones-infinite binary64 s = refl
-
-ones-pos : (f : Format) → 0 < ones f
-ones-pos f = omega arith
 
 module _ (f : Format) where
   -- what the exponent's field x and the digits t come to, in smallest values
@@ -162,10 +171,6 @@ module _ (f : Format) where
 
   -- ---- two values compared
 
-  -- n says that neither is a NaN
-  abbrev pub Compares : Bool → Float → Float → Bool → ℕ → Bool → ℕ → Type 0
-  Compares n x y s p t q = (lt x y ≡ n && below s p t q) × (eq x y ≡ n && level s p t q)
-
   -- of finite values a / d and b / e, where c is the smallest value's denominator
   by-weights : (K : ℕ → ℕ → Bool) → Kept K → (a d b e c p q : ℕ) → 0 < c → 0 < d → 0 < e → a * c ≡ weight p * d → b * c ≡ weight q * e → K (a * e) (b * d) ≡ K p q
   by-weights K k a d b e c p q C D E v w =
@@ -178,7 +183,8 @@ module _ (f : Format) where
   stand-compare nan y s t p q v w = absurd v
   stand-compare (inf s') nan s t p q v w = absurd w
   stand-compare (inf s') (inf t') s t p q v w =
-      let l : 0 < p = rw (v .1) (mul-pos (ones-pos f) hid-pos) in
+      let o : 0 < ones f = omega arith in
+      let l : 0 < p = rw (v .1) (mul-pos o hid-pos) in
       rw (← v .0, ← w .0, w .1, ← v .1) (beside p l s' t', rw (eq-eqb p p refl, ne-eqb p 0 (λ e. omega arith)) (sym (or-false (Bool·beq s' t'))))
   stand-compare (inf s') (fin t' n d) s t p q v w =
       let l : q < p = rw (v .1) (w .2) in
@@ -192,13 +198,7 @@ module _ (f : Format) where
       λ K k. by-weights K k (m * up e) (down e) (n * up d) (down d) (2 ^ low f) p q (pow-pos (low f)) (down-pos e) (down-pos d) (v .1) (w .1) in
       rw (← v .0, ← w .0) (u (λ a b. below s' a t' b) (λ g z l. below-kept g z l s' t'), u (λ a b. level s' a t' b) (λ g z l. level-kept g z l s' t'))
 
-  -- ---- two patterns compared: a NaN's is above an infinity's, the signs dropped, and compares with none
-
-  nan-right : (x : Float) → (lt x nan ≡ false) × (eq x nan ≡ false)
-  unfolding lt eq
-  nan-right nan = (refl, refl)
-  nan-right (inf s) = (refl, refl)
-  nan-right (fin s m e) = (refl, refl)
+  -- ---- two patterns compared: a NaN's is above an infinity's, the signs dropped
 
   pub bits-compare : (a b : ℕ) → Compares (leb (a % top f) (ones f * hid f) && leb (b % top f) (ones f * hid f)) (ofBits f a) (ofBits f b) (leb (top f) a) (a % top f) (leb (top f) b) (b % top f)
   bits-compare a b = by (leb (a % top f) (ones f * hid f)) (leb (b % top f) (ones f * hid f)) refl refl
