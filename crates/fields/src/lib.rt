@@ -3,11 +3,17 @@ ghost use mathlib.Core.Path.{_≡_};
 ghost use Prim.Native.Nat.{_+_, _*_, _^_, _≤_, _<_};
 ghost use lib.ListN.{length};
 ghost use lib.Seq.{sets};
-ghost use lib.Ieee.{binary64, ofBits, toBits};
+ghost use lib.Ieee.{binary64, ofBits, toBits, lt, eq};
 ghost use mir.Syntax.{w32};
 ghost use mir.Val.{toZ, ofZ};
 ghost use Rattle.format.specs.Bytes.{le, be, leBytes, beBytes, field};
 ghost use Rattle.format.specs.Numbers.{beI32, leI32, leF64, doublesAt, i32Be, i32Le, f64Le, f64sLe};
+ghost use Rattle.format.specs.WellFormed.{sameNumber};
+
+// The weight of a double's sign, and the bits of an infinity without one: what is above them is a NaN's.
+const SIGN: u64 = 0x8000_0000_0000_0000;
+
+const INFINITY: u64 = 0x7ff0_0000_0000_0000;
 
 fn wide(b: u8) -> u64
     ensures { λ r. ⌜ (r ≡ b) × (r < 256) ⌝ }
@@ -98,7 +104,7 @@ pub fn unsigned(z: i32) -> u64
 pub fn double(n: u64) -> f64
     ensures { λ r. ⌜ r ≡ ofBits binary64 n ⌝ }
 {
-    if 0x7ff0_0000_0000_0000 < n % 0x8000_0000_0000_0000 {
+    if INFINITY < n % SIGN {
         0.0 / 0.0
     } else {
         f64::from_bits(n)
@@ -114,6 +120,52 @@ pub fn bits(x: f64) -> u64
     } else {
         f64::to_bits(x)
     }
+}
+
+// Two doubles, by their bits, are equal as IEEE numbers: two zeros, or equal bits that are no NaN's. A comparison of doubles would hang on
+// the processor's mode: where the calling program has denormals taken for zeros, 2^-1074 equals 0.
+pub fn same_number(a: u64, b: u64) -> bool
+    ensures { λ r. ⌜ r ≡ sameNumber a b ⌝ }
+{
+    let rest = a % SIGN;
+    if INFINITY < rest {
+        return false;
+    }
+    if rest == 0 {
+        return b % SIGN == 0;
+    }
+    a == b
+}
+
+// The first is below the second as IEEE numbers: by their signs, and by the numbers behind those.
+fn below_number(a: u64, b: u64) -> bool
+    ensures { λ r. ⌜ r ≡ lt (ofBits binary64 a) (ofBits binary64 b) ⌝ }
+{
+    let p = a % SIGN;
+    let q = b % SIGN;
+    if INFINITY < p {
+        return false;
+    }
+    if INFINITY < q {
+        return false;
+    }
+    if a < SIGN {
+        return if b < SIGN { p < q } else { false };
+    }
+    if b < SIGN { 0 < p + q } else { q < p }
+}
+
+// The same of doubles.
+pub fn same(x: f64, y: f64) -> bool
+    ensures { λ r. ⌜ r ≡ eq x y ⌝ }
+{
+    same_number(bits(x), bits(y))
+}
+
+pub fn below(x: f64, y: f64) -> bool
+    ensures { λ r. ⌜ r ≡ lt x y ⌝ }
+{
+    below_number(bits(x), bits(y))
 }
 
 // A field that is whole.

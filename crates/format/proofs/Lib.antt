@@ -1,4 +1,5 @@
 -- The laws of the definitions of specs/, which the crates above cite.
+pub mod BitLaws
 pub mod ByteLaws
 pub mod Cuts
 pub mod Determined

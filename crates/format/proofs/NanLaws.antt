@@ -3,8 +3,8 @@ use mathlib.Core.Path.{_≡_, refl, sym, ap, _∙_, subst}
 use mathlib.Core.Bool.{Bool, true, false, not}
 use Prim.Native.Nat.{ℕ, _*_, _%_, _^_, _≤_, _<_}
 use lib.Dec.{T}
-use lib.Ieee.{Float, nan, inf, fin, Format, ones, hid, top, binary64, isNan, nanBits, ofBits, toBits, div, ne}
-use lib.Ieee.Bits.{nanBits-is, nanBits-above, toBits-ofBits}
+use lib.Ieee.{Float, nan, inf, fin, Format, ones, hid, top, binary64, fits, isNan, nanBits, ofBits, toBits, div, ne}
+use lib.Ieee.Bits.{nanBits-is, nanBits-above, ofBits-toBits, toBits-ofBits}
 use lib.Ieee.Compare.{nan-differs, differs-from-itself}
 use borrow.Author.Tests.{lt-ltb, le-ltb}
 use Rattle.format.specs.Numbers.{PlainNan}
@@ -53,3 +53,7 @@ bits-back d h p = by-nan (isNan (ofBits binary64 d)) refl
 
 pub back-plain : (d : ℕ) → toBits binary64 (ofBits binary64 d) ≡ d → PlainNan d
 back-plain d e n = sym e ∙ (ap (toBits binary64) n ∙ nan-bits)
+
+-- a double is that of its bits
+pub double-back : (x : Float) (d : ℕ) → fits binary64 x ≡ true → d ≡ toBits binary64 x → ofBits binary64 d ≡ x
+double-back x d h e = ap (ofBits binary64) e ∙ ofBits-toBits binary64 x (subst T (sym h) tt)

@@ -6,6 +6,7 @@ ghost use lib.IntN.{natAbs};
 ghost use lib.ListN.{length, replicate};
 ghost use Rattle.format.specs.Bytes.{field};
 ghost use Rattle.format.specs.Numbers.{finite};
+ghost use Rattle.format.specs.WellFormed.{sameNumber};
 ghost use Rattle.rules.specs.Rules.{bigAt, littleAt, doubleAt, sameBytes, finites, endOf, ringClosed};
 ghost use Rattle.pair.specs.Plans.{Word, Field, Whole};
 use format::units::Words;
@@ -119,6 +120,14 @@ pub(crate) fn end_of(s: &[u8], at: usize, left: usize, n: usize) -> usize
     if left == 0 { n } else { little(s, at) }
 }
 
+// The doubles at two places are equal as IEEE numbers.
+fn same_at(s: &[u8], a: usize, b: usize) -> bool
+    requires { ⌜ (a + 8 ≤ length (now s)) × (b + 8 ≤ length (now s)) ⌝ }
+    ensures { λ r. ⌜ r ≡ sameNumber (doubleAt a (now (s .entry))) (doubleAt b (now (s .entry))) ⌝ }
+{
+    fields::same_number(fields::le_number(s, a, 8), fields::le_number(s, b, 8))
+}
+
 // The points from a place on: the ring from point `from` to the one before `end` is closed, its numbers compared as IEEE numbers.
 pub(crate) fn closed(s: &[u8], pairs: usize, from: usize, end: usize) -> bool
     requires { ⌜ (from < end) × (pairs + 16 * end ≤ length (now s)) ⌝ }
@@ -126,8 +135,8 @@ pub(crate) fn closed(s: &[u8], pairs: usize, from: usize, end: usize) -> bool
 {
     let a = pairs + 16 * from;
     let b = pairs + 16 * (end - 1);
-    if fields::le_f64_at(s, a) == fields::le_f64_at(s, b) {
-        return fields::le_f64_at(s, a + 8) == fields::le_f64_at(s, b + 8);
+    if same_at(s, a, b) {
+        return same_at(s, a + 8, b + 8);
     }
     false
 }

@@ -22,7 +22,7 @@ pub enum RingAnswer {
     Tables,
 }
 
-// There is a first point, and it equals the last.
+// There is a first point, and it equals the last, in every mode of the processor.
 pub fn is_part_closed(xy: &[f64]) -> ClosedAnswer
     ensures { λ r. ⌜ saidClosed r ≡ closedOf (now (xy .entry)) ⌝ }
 {
@@ -33,8 +33,8 @@ pub fn is_part_closed(xy: &[f64]) -> ClosedAnswer
     if n == 0 {
         return ClosedAnswer::Open;
     }
-    if xy[0] == xy[n - 2] {
-        if xy[1] == xy[n - 1] {
+    if fields::same(xy[0], xy[n - 2]) {
+        if fields::same(xy[1], xy[n - 1]) {
             return ClosedAnswer::Closed;
         }
     }

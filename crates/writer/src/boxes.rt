@@ -10,13 +10,13 @@ use header::bbox::BBoxZ;
 pub fn f64_min(a: f64, b: f64) -> f64
     ensures { λ r. ⌜ r ≡ least a b ⌝ }
 {
-    if a < b { a } else { b }
+    if fields::below(a, b) { a } else { b }
 }
 
 pub fn f64_max(a: f64, b: f64) -> f64
     ensures { λ r. ⌜ r ≡ greatest a b ⌝ }
 {
-    if a > b { a } else { b }
+    if fields::below(b, a) { a } else { b }
 }
 
 // The held box grown by a record's own: the record's value first, the held one second.
@@ -106,8 +106,8 @@ pub(crate) fn point_box(xy: &[f64], zs: &[f64], ms: &[f64]) -> BBoxZ
 fn at_start(low: f64, high: f64) -> bool
     ensures { λ r. ⌜ r ≡ untouched low high ⌝ }
 {
-    if high == fields::double(0xffef_ffff_ffff_ffff) {
-        low == fields::double(0x7fef_ffff_ffff_ffff)
+    if fields::same(high, fields::double(0xffef_ffff_ffff_ffff)) {
+        fields::same(low, fields::double(0x7fef_ffff_ffff_ffff))
     } else {
         false
     }

@@ -4,10 +4,12 @@ use Rattle.writer.proofs.boxes.at_start.Statement.{statement}
 use Rattle.writer.proofs.boxes.at_start.Tie as tie
 
 returns : tie.Need-returns
-returns c = rw (← c .before .before .double .ensures, ← c .double2 .ensures, c .before .if1 .taken)
+returns c =
+    let d = c .before .before .before in
+    rw (← d .before .double .ensures, ← c .before .double2 .ensures, ← d .same .ensures, c .before .before .if1 .taken) (c .same2 .ensures)
 
 returns-2 : tie.Need-returns-2
-returns-2 c = rw (← c .before .double .ensures, c .if1 .left)
+returns-2 c = rw (← c .before .before .double .ensures, ← c .before .same .ensures, c .if1 .left)
 
 pub at-start-spec : {M : Type 1} → statement M
-at-start-spec = tie.close (tie.spec (λ c κs. search needs) (λ c κs. search needs) returns returns-2)
+at-start-spec = tie.close (tie.spec (λ c κs. search needs) (λ c κs. search needs) (λ c κs. search needs) (λ c κs. search needs) returns returns-2)

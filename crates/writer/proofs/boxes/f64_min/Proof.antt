@@ -1,12 +1,13 @@
 -- `boxes::f64_min` meets its contract: the test is the definition's.
+use borrow.Author.Needs.{needs}
 use Rattle.writer.proofs.boxes.f64_min.Statement.{statement}
 use Rattle.writer.proofs.boxes.f64_min.Tie as tie
 
 returns : tie.Need-returns
-returns c = simp (c .if1 .taken)
+returns c = rw (← c .before .below .ensures, c .if1 .taken)
 
 returns-2 : tie.Need-returns-2
-returns-2 c = simp (c .if1 .left)
+returns-2 c = rw (← c .before .below .ensures, c .if1 .left)
 
 pub f64-min-spec : {M : Type 1} → statement M
-f64-min-spec = tie.close (tie.spec returns returns-2)
+f64-min-spec = tie.close (tie.spec (λ c κs. search needs) returns returns-2)
