@@ -113,7 +113,9 @@ fn shape(kind: i32, random: &mut Random) -> Shape {
     }
 }
 
-/// What the checker has to count in these records.
+/// What the checker has to count in these records. There may be more variants one day: were `Record`
+/// exhaustive, the last arm would be unreachable, and this would not build.
+#[deny(unreachable_patterns)]
 pub fn totals(records: &[Record]) -> Totals {
     let mut totals = Totals {
         records: records.len(),
