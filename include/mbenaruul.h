@@ -15,7 +15,7 @@
  *   - mbenaruul_ring_type_from_points_ordering
  *   - mbenaruul_add_record and mbenaruul_write_shape, for the box in the state
  *   - mbenaruul_read_record and mbenaruul_read_record_of, for m values
- * Nothing else depends on the mode: not whether a ring is closed (P15, mbenaruul_is_part_closed, mbenaruul_close_points_if_not_already).
+ * The rest does not depend on it, whether a ring is closed (P15, mbenaruul_is_part_closed, mbenaruul_close_points_if_not_already) included.
  *
  * What each refusal's number means, and its values (docs/DOCUMENT-01.md, "What comes back"):
  *    0  not refused
@@ -94,7 +94,7 @@ mbenaruul_pair_checked mbenaruul_check_pair(const uint8_t *shp, size_t shp_n, co
  *     to that start plus the bytes of the first, and so on.
  *   - the .shx: a header of 100 bytes, then the 8 bytes of each record's entry, behind those of the last one.
  *   - when all records are added, the two headers that mbenaruul_finish gives go in front.
- * Tables are judged by their lengths alone: a ring that is open, NaN, a part of one point, a box that is not the true one are written as given. */
+ * Of tables only the lengths are judged: a ring that is open, NaN, a part of one point, a box that is not the true one are written as given. */
 typedef struct { int32_t words, number, kind; mbenaruul_bbox bbox; } mbenaruul_state;
 mbenaruul_state mbenaruul_new(void);
 /* The record is put into out from start on, and its entry into the first 8 bytes of entry; no other byte is touched. bytes: those of the record.

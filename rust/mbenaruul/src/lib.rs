@@ -56,8 +56,8 @@
 //! round to nearest, and denormal numbers kept (no flush-to-zero, no denormals-are-zero). It is
 //! assumed by the turning of rings ([`ring_type_from_points_ordering`]), the header's box when a
 //! record is added ([`Writer`]), and the m values of a record that is read ([`read_record`]).
-//! Nothing else depends on it: not whether a ring is closed (P15, [`is_part_closed`],
-//! [`close_points_if_not_already`]).
+//! The rest does not depend on it, whether a ring is closed (P15, [`is_part_closed`],
+//! [`close_points_if_not_already`]) included.
 
 #![deny(missing_docs)]
 #![deny(unsafe_code)]
