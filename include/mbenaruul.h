@@ -1,8 +1,21 @@
 /* Shapefiles (.shp with .shx) read, written and checked: the calls of libexport.a, which are proved.
  *
- * A slice is two arguments, where it begins and how many entries it has; a length of 0 may come with any pointer that is not null. Every call is
+ * A slice is two arguments, where it begins and how many entries it has; a length of 0 may come with any pointer, NULL too. Every call is
  * total: any numbers and any bytes may be handed to it. A refusal writes to no buffer and leaves the writer's state as it was. A buffer
  * that a call may write to must not overlap anything else that is handed to that call.
+ *
+ * Nothing is kept between calls, allocated or shared: any number of threads may call at once, where none writes to what another was lent.
+ *
+ * Empty stores ask for the room. Room is judged last: lent less than it needs, or nothing at all, a call refuses with 6 and says what it needs,
+ * and with so much it then succeeds. For p parts and n points, counts takes p, xy 2n, z and m n each, where the record has them; of an output
+ * the bytes are told, start included. rust/c/write.c asks so, both when it writes and when it reads.
+ *
+ * What computes with doubles assumes the processor's default floating-point mode: round to nearest, denormal numbers kept (no flush-to-zero,
+ * no denormals-are-zero, which -ffast-math may switch on). These compute with doubles:
+ *   - mbenaruul_ring_type_from_points_ordering
+ *   - mbenaruul_add_record and mbenaruul_write_shape, for the box in the state
+ *   - mbenaruul_read_record and mbenaruul_read_record_of, for m values
+ * The rest does not depend on it, whether a ring is closed (P15, mbenaruul_is_part_closed, mbenaruul_close_points_if_not_already) included.
  *
  * What each refusal's number means, and its values (docs/DOCUMENT-01.md, "What comes back"):
  *    0  not refused
@@ -46,7 +59,8 @@ typedef struct { int32_t offset, content_length /* both in words */; } mbenaruul
 typedef struct { mbenaruul_refusal refusal; mbenaruul_index_entry entry; } mbenaruul_index_entry_read;
 mbenaruul_index_entry_read mbenaruul_read_index_entry(const uint8_t *bytes, size_t n);
 
-/* ---- a record, from its content (behind the record header) and its size in bytes */
+/* ---- a record, from its content (behind the record header's 8 bytes) and its size in bytes: twice the content length of its header or of its
+ * index entry */
 
 typedef struct { double x, y, z, m; } mbenaruul_point;
 typedef struct { double xmin, ymin, xmax, ymax; } mbenaruul_box;
@@ -75,9 +89,16 @@ mbenaruul_pair_checked mbenaruul_check_pair(const uint8_t *shp, size_t shp_n, co
 
 /* ---- writing */
 
+/* A pair is put together so:
+ *   - the .shp: a header of 100 bytes, then each record behind the last one. The first record goes to start 100 of the .shp's buffer, the next
+ *     to that start plus the bytes of the first, and so on.
+ *   - the .shx: a header of 100 bytes, then the 8 bytes of each record's entry, behind those of the last one.
+ *   - when all records are added, the two headers that mbenaruul_finish gives go in front.
+ * Of tables only the lengths are judged: a ring that is open, NaN, a part of one point, a box that is not the true one are written as given. */
 typedef struct { int32_t words, number, kind; mbenaruul_bbox bbox; } mbenaruul_state;
 mbenaruul_state mbenaruul_new(void);
-/* bytes: those of the record. The next record takes the state that comes back. */
+/* The record is put into out from start on, and its entry into the first 8 bytes of entry; no other byte is touched. bytes: those of the record.
+ * The next record takes the state that comes back. */
 typedef struct { mbenaruul_refusal refusal; size_t bytes; mbenaruul_state state; } mbenaruul_added;
 mbenaruul_added mbenaruul_add_record(mbenaruul_state state, int32_t code, mbenaruul_bbox bbox, const uint32_t *counts, size_t counts_n,
                                      const double *xy, size_t xy_n, const double *z, size_t z_n, const double *m, size_t m_n, uint8_t *out, size_t out_n,
@@ -96,6 +117,41 @@ typedef struct { mbenaruul_refusal refusal; size_t value; } mbenaruul_told;
 mbenaruul_told mbenaruul_is_part_closed(const double *xy, size_t n);                      /* 1 closed, 0 not */
 mbenaruul_told mbenaruul_ring_type_from_points_ordering(const double *xy, size_t n);      /* 1 inner, 0 outer */
 mbenaruul_told mbenaruul_close_points_if_not_already(double *store, size_t n, size_t run); /* the points of the closed run */
+
+/* ---- how the structs lie: their bytes, and those of each field, from and up to. A compiler that lays one out otherwise stops here; the Rust
+ * crate's src/ffi/layout.rs has the same numbers. */
+
+#define MBENARUUL_AT(type, field, from, to) && offsetof(mbenaruul_##type, field) == (from) && sizeof(((mbenaruul_##type *)0)->field) == (to) - (from)
+#define MBENARUUL_LIES(type, bytes, fields) typedef char mbenaruul_##type##_lies[sizeof(mbenaruul_##type) == (bytes) fields ? 1 : -1]
+MBENARUUL_LIES(refusal, 24, MBENARUUL_AT(refusal, number, 0, 4) MBENARUUL_AT(refusal, first, 8, 16) MBENARUUL_AT(refusal, second, 16, 24));
+MBENARUUL_LIES(bbox, 64, MBENARUUL_AT(bbox, xmin, 0, 8) MBENARUUL_AT(bbox, ymin, 8, 16) MBENARUUL_AT(bbox, xmax, 16, 24)
+               MBENARUUL_AT(bbox, ymax, 24, 32) MBENARUUL_AT(bbox, zmin, 32, 40) MBENARUUL_AT(bbox, zmax, 40, 48) MBENARUUL_AT(bbox, mmin, 48, 56)
+               MBENARUUL_AT(bbox, mmax, 56, 64));
+MBENARUUL_LIES(header, 80, MBENARUUL_AT(header, file_length, 0, 4) MBENARUUL_AT(header, version, 4, 8) MBENARUUL_AT(header, shape_type, 8, 12)
+               MBENARUUL_AT(header, bbox, 16, 80));
+MBENARUUL_LIES(header_read, 104, MBENARUUL_AT(header_read, refusal, 0, 24) MBENARUUL_AT(header_read, header, 24, 104));
+MBENARUUL_LIES(record_header, 8, MBENARUUL_AT(record_header, record_number, 0, 4) MBENARUUL_AT(record_header, content_length, 4, 8));
+MBENARUUL_LIES(record_header_read, 32, MBENARUUL_AT(record_header_read, refusal, 0, 24) MBENARUUL_AT(record_header_read, header, 24, 32));
+MBENARUUL_LIES(index_entry, 8, MBENARUUL_AT(index_entry, offset, 0, 4) MBENARUUL_AT(index_entry, content_length, 4, 8));
+MBENARUUL_LIES(index_entry_read, 32, MBENARUUL_AT(index_entry_read, refusal, 0, 24) MBENARUUL_AT(index_entry_read, entry, 24, 32));
+MBENARUUL_LIES(point, 32, MBENARUUL_AT(point, x, 0, 8) MBENARUUL_AT(point, y, 8, 16) MBENARUUL_AT(point, z, 16, 24) MBENARUUL_AT(point, m, 24, 32));
+MBENARUUL_LIES(box, 32, MBENARUUL_AT(box, xmin, 0, 8) MBENARUUL_AT(box, ymin, 8, 16) MBENARUUL_AT(box, xmax, 16, 24) MBENARUUL_AT(box, ymax, 24, 32));
+MBENARUUL_LIES(range, 16, MBENARUUL_AT(range, low, 0, 8) MBENARUUL_AT(range, high, 8, 16));
+MBENARUUL_LIES(body, 80, MBENARUUL_AT(body, bbox, 0, 32) MBENARUUL_AT(body, z_range, 32, 48) MBENARUUL_AT(body, m_range, 48, 64)
+               MBENARUUL_AT(body, parts, 64, 72) MBENARUUL_AT(body, points, 72, 80));
+MBENARUUL_LIES(record_read, 152, MBENARUUL_AT(record_read, refusal, 0, 24) MBENARUUL_AT(record_read, code, 24, 28)
+               MBENARUUL_AT(record_read, form, 28, 32) MBENARUUL_AT(record_read, has_m, 32, 36) MBENARUUL_AT(record_read, point, 40, 72)
+               MBENARUUL_AT(record_read, body, 72, 152));
+MBENARUUL_LIES(totals, 24, MBENARUUL_AT(totals, records, 0, 8) MBENARUUL_AT(totals, parts, 8, 16) MBENARUUL_AT(totals, points, 16, 24));
+MBENARUUL_LIES(pair_checked, 48, MBENARUUL_AT(pair_checked, refusal, 0, 24) MBENARUUL_AT(pair_checked, totals, 24, 48));
+MBENARUUL_LIES(state, 80, MBENARUUL_AT(state, words, 0, 4) MBENARUUL_AT(state, number, 4, 8) MBENARUUL_AT(state, kind, 8, 12)
+               MBENARUUL_AT(state, bbox, 16, 80));
+MBENARUUL_LIES(added, 112, MBENARUUL_AT(added, refusal, 0, 24) MBENARUUL_AT(added, bytes, 24, 32) MBENARUUL_AT(added, state, 32, 112));
+MBENARUUL_LIES(written, 32, MBENARUUL_AT(written, refusal, 0, 24) MBENARUUL_AT(written, bytes, 24, 32));
+MBENARUUL_LIES(finished, 224, MBENARUUL_AT(finished, refusal, 0, 24) MBENARUUL_AT(finished, shp, 24, 124) MBENARUUL_AT(finished, shx, 124, 224));
+MBENARUUL_LIES(told, 32, MBENARUUL_AT(told, refusal, 0, 24) MBENARUUL_AT(told, value, 24, 32));
+#undef MBENARUUL_LIES
+#undef MBENARUUL_AT
 
 #ifdef __cplusplus
 }

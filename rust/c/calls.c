@@ -24,15 +24,13 @@ static int same_state(mbenaruul_state a, mbenaruul_state b) {
     return a.words == b.words && a.number == b.number && a.kind == b.kind && memcmp(&a.bbox, &b.bbox, sizeof a.bbox) == 0;
 }
 
-/* Nothing to lend still takes a pointer. */
-static double none[1];
 static uint32_t counts[] = {2};
 static double xy[] = {1, 2, 3, 4}, z[] = {10, 11}, m[] = {20, 21};
 static mbenaruul_bbox box = {1, 2, 3, 4, 5, 6, 7, 8};
 
 /* A polyline of two points, with as many coordinates and as much room as is said. */
 static mbenaruul_added add(mbenaruul_state s, int32_t code, size_t xy_n, uint8_t *out, size_t out_n, uint8_t *entry, size_t entry_n) {
-    return mbenaruul_add_record(s, code, box, counts, 1, xy, xy_n, none, 0, none, 0, out, out_n, 0, entry, entry_n);
+    return mbenaruul_add_record(s, code, box, counts, 1, xy, xy_n, NULL, 0, NULL, 0, out, out_n, 0, entry, entry_n);
 }
 
 /* The pair of one polyline of two points: 188 and 108 bytes. */
@@ -161,6 +159,77 @@ static void write_both_ways(void) {
     CHECK(memcmp(a_out, b_out, sizeof a_out) == 0 && memcmp(a_entry, b_entry, 8) == 0);
 }
 
+/* A polyline with z and m, whose numbers all differ: each comes back in its own field. */
+static void every_field(void) {
+    uint8_t out[152], entry[8];
+    uint32_t c[1];
+    double p[4], zs[2], ms[2];
+    mbenaruul_added a = mbenaruul_add_record(mbenaruul_new(), 13, box, counts, 1, xy, 4, z, 2, m, 2, out, sizeof out, 0, entry, 8);
+    mbenaruul_finished f = mbenaruul_finish(a.state);
+    mbenaruul_header_read shp = mbenaruul_read_header(f.shp, 100), shx = mbenaruul_read_header(f.shx, 100);
+    mbenaruul_record_read r = mbenaruul_read_record(out + 8, 144, 144, c, 1, p, 4, zs, 2, ms, 2);
+
+    CHECK(shp.header.file_length == 126 && shx.header.file_length == 54 && shp.header.version == 1000 && shp.header.shape_type == 13);
+    CHECK(memcmp(&shp.header.bbox, &box, sizeof box) == 0 && memcmp(&shx.header.bbox, &box, sizeof box) == 0);
+    CHECK(is(r.refusal, 0, 0, 0) && r.code == 13 && r.form == 2 && r.has_m == 1);
+    CHECK(r.body.bbox.xmin == 1 && r.body.bbox.ymin == 2 && r.body.bbox.xmax == 3 && r.body.bbox.ymax == 4);
+    CHECK(r.body.z_range.low == 5 && r.body.z_range.high == 6 && r.body.m_range.low == 7 && r.body.m_range.high == 8);
+    CHECK(r.body.parts == 1 && r.body.points == 2 && c[0] == 2);
+    CHECK(memcmp(p, xy, sizeof p) == 0 && memcmp(zs, z, sizeof zs) == 0 && memcmp(ms, m, sizeof ms) == 0);
+}
+
+/* A length of 0 comes with NULL, in every slice of every call that reads. */
+static void null_read(const uint8_t *shp, const uint8_t *content) {
+    static const uint8_t null[4], no_points[44] = {3};
+    double p[4];
+    uint32_t c[1];
+    mbenaruul_record_read r;
+
+    CHECK(is(mbenaruul_read_header(NULL, 0).refusal, 1, 0, 0));
+    CHECK(is(mbenaruul_read_record_header(NULL, 0).refusal, 1, 0, 0));
+    CHECK(is(mbenaruul_read_index_entry(NULL, 0).refusal, 1, 0, 0));
+    CHECK(is(mbenaruul_check_pair(NULL, 0, NULL, 0).refusal, 8, 1, 0));
+    CHECK(is(mbenaruul_check_pair(shp, 188, NULL, 0).refusal, 8, 2, 0));
+    CHECK(is(mbenaruul_read_record(NULL, 0, 80, NULL, 0, NULL, 0, NULL, 0, NULL, 0).refusal, 1, 0, 0));
+    CHECK(is(mbenaruul_read_record_of(3, NULL, 0, 80, NULL, 0, NULL, 0, NULL, 0, NULL, 0).refusal, 1, 0, 0));
+    CHECK(is(mbenaruul_read_record(content, 80, 80, NULL, 0, NULL, 0, NULL, 0, NULL, 0).refusal, 6, 1, 2));
+    CHECK(is(mbenaruul_read_record_of(3, content, 80, 80, NULL, 0, NULL, 0, NULL, 0, NULL, 0).refusal, 6, 1, 2));
+    CHECK(is(mbenaruul_read_record(content, 80, 80, c, 1, p, 4, NULL, 0, NULL, 0).refusal, 0, 0, 0) && p[3] == 4);
+    CHECK(is(mbenaruul_read_record_of(3, content, 80, 80, c, 1, p, 4, NULL, 0, NULL, 0).refusal, 0, 0, 0));
+    CHECK(is(mbenaruul_read_record(null, 4, 4, NULL, 0, NULL, 0, NULL, 0, NULL, 0).refusal, 0, 0, 0));
+    r = mbenaruul_read_record(no_points, 44, 44, NULL, 0, NULL, 0, NULL, 0, NULL, 0);
+    CHECK(is(r.refusal, 0, 0, 0) && r.form == 2 && r.body.parts == 0 && r.body.points == 0);
+    r = mbenaruul_read_record_of(3, no_points, 44, 44, NULL, 0, NULL, 0, NULL, 0, NULL, 0);
+    CHECK(is(r.refusal, 0, 0, 0) && r.form == 2);
+}
+
+/* The same of every call that writes, and of rings. */
+static void null_written(void) {
+    uint8_t out[84], again[84], entry[8];
+    mbenaruul_state s = mbenaruul_new(), lent = s;
+    mbenaruul_added a = mbenaruul_add_record(s, 13, box, NULL, 0, NULL, 0, NULL, 0, NULL, 0, out, sizeof out, 0, entry, 8);
+    mbenaruul_written w = mbenaruul_write_shape(&lent, 13, box, NULL, 0, NULL, 0, NULL, 0, NULL, 0, again, sizeof again, 0, entry, 8);
+    mbenaruul_told t;
+
+    CHECK(is(a.refusal, 0, 0, 0) && a.bytes == 84 && is(w.refusal, 0, 0, 0) && w.bytes == 84);
+    CHECK(memcmp(out, again, sizeof out) == 0 && same_state(a.state, lent));
+    a = mbenaruul_add_record(s, 1, box, NULL, 0, xy, 2, NULL, 0, NULL, 0, NULL, 0, 100, NULL, 0);
+    CHECK(is(a.refusal, 6, 128, 0));
+    a = mbenaruul_add_record(s, 1, box, NULL, 0, xy, 2, NULL, 0, NULL, 0, out, sizeof out, 0, NULL, 0);
+    CHECK(is(a.refusal, 6, 8, 0));
+    w = mbenaruul_write_shape(&s, 13, box, counts, 1, xy, 4, z, 2, m, 2, NULL, 0, 100, NULL, 0);
+    CHECK(is(w.refusal, 6, 252, 0));
+    w = mbenaruul_write_shape(&s, 13, box, NULL, 0, NULL, 0, NULL, 0, NULL, 0, out, sizeof out, 0, NULL, 0);
+    CHECK(is(w.refusal, 6, 8, 0));
+    t = mbenaruul_is_part_closed(NULL, 0);
+    CHECK(is(t.refusal, 0, 0, 0) && t.value == 0);
+    t = mbenaruul_ring_type_from_points_ordering(NULL, 0);
+    CHECK(is(t.refusal, 0, 0, 0) && t.value == 0);
+    t = mbenaruul_close_points_if_not_already(NULL, 0, 0);
+    CHECK(is(t.refusal, 0, 0, 0) && t.value == 0);
+    CHECK(is(mbenaruul_close_points_if_not_already(NULL, 0, 2).refusal, 10, 0, 0));
+}
+
 static void rings(void) {
     double outer[] = {0, 0, 0, 1, 1, 1, 1, 0, 0, 0}, inner[] = {0, 0, 1, 0, 1, 1, 0, 1, 5, 5};
     mbenaruul_told t = mbenaruul_is_part_closed(outer, 10);
@@ -190,6 +259,9 @@ int main(void) {
     records(shp + 108);
     refusals_of_adding(s);
     write_both_ways();
+    every_field();
+    null_read(shp, shp + 108);
+    null_written();
     rings();
     printf("calls: %d checks, %d failed\n", checks, failed);
     return failed != 0;

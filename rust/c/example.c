@@ -10,7 +10,7 @@
 
 #include "mbenaruul.h"
 
-/* A whole file, or null. There is a byte more than the file has, so that an empty file is not null: the library takes no null pointer. */
+/* A whole file, or null if it cannot be read. There is a byte more than the file has, so that an empty file is not null. */
 static uint8_t *read_file(const char *name, size_t *n) {
     FILE *in = fopen(name, "rb");
     uint8_t *bytes = NULL;

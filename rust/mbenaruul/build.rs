@@ -7,21 +7,30 @@ use std::{env, fs, io};
 
 fn main() {
     println!("cargo:rerun-if-env-changed=MBENARUUL_LIB");
-    let processor = env::var("CARGO_CFG_TARGET_ARCH").unwrap_or_default();
-    if processor != "x86_64" {
-        stop(&format!(
-            "libexport.a is for x86-64, and this build is for {processor}"
-        ));
-    }
+    for_this_target();
     let folder = folder();
     println!("cargo:rustc-link-search=native={}", folder.display());
     println!("cargo:rustc-link-lib=static=export");
 }
 
+/// The library is code for one processor and one system. It calls nothing of a C library, so that
+/// any may be linked beside it.
+fn for_this_target() {
+    let cfg = |what: &str| env::var(format!("CARGO_CFG_TARGET_{what}")).unwrap_or_default();
+    let target = [cfg("ARCH"), cfg("OS"), cfg("POINTER_WIDTH")];
+    if target != ["x86_64", "linux", "64"] {
+        let [processor, system, width] = target;
+        stop(&format!(
+            "libexport.a is for x86_64 linux with pointers of 64 bits, and this build is for \
+             {processor} {system} with pointers of {width}"
+        ));
+    }
+}
+
 fn folder() -> PathBuf {
     let root = Path::new(env!("CARGO_MANIFEST_DIR")).join("../..");
     match env::var_os("MBENARUUL_LIB") {
-        Some(named) => holding(PathBuf::from(named)),
+        Some(named) => holding(from_root_on(PathBuf::from(named))),
         None if root.join("lib/libexport.a").is_file() => holding(root.join("lib")),
         None => {
             let made = holding(root.join("target/staticlib"));
@@ -29,6 +38,16 @@ fn folder() -> PathBuf {
             made
         }
     }
+}
+
+/// Cargo runs this in the crate's own folder, and not where the name was given.
+fn from_root_on(named: PathBuf) -> PathBuf {
+    if named.is_relative() {
+        stop(&format!(
+            "MBENARUUL_LIB is {named:?}: it has to name a folder from / on"
+        ));
+    }
+    named
 }
 
 /// The folder, which has to hold the library.

@@ -36,10 +36,13 @@ told 'dist: paircheck' says 1 'no rule=P11 record=1' without_rt ./paircheck crat
 told 'dist: the program itself' says 0 'no rule=P11 record=1' without_rt "${run[@]}" bin/paircheck crates/pairs/data/exchanged.shp crates/pairs/data/exchanged.shx
 
 c_example() {
-    without_rt "${cc[@]}" -I include rust/c/example.c lib/libexport.a -o example
+    without_rt "${cc[@]}" -I include "rust/c/$1.c" lib/libexport.a -o "$1"
 }
-told 'dist: the C example builds' c_example
-told 'dist: the C example runs' says 1 'no rule=P11 record=1' "${run[@]}" ./example crates/pairs/data/exchanged.shp crates/pairs/data/exchanged.shx
+told 'dist: the C example that writes builds' c_example write
+told 'dist: it writes' says 0 'run 1: (0, 0) (9, 0)' first_line "${run[@]}" ./write written.shp written.shx
+told 'dist: the C example builds' c_example example
+told 'dist: the C example runs' says 0 'yes records=3 parts=3 points=7' "${run[@]}" ./example written.shp written.shx
+told 'dist: and says no' says 1 'no rule=P11 record=1' "${run[@]}" ./example crates/pairs/data/exchanged.shp crates/pairs/data/exchanged.shx
 
 mkdir -p printer/src
 cat >printer/Cargo.toml <<'TOML'

@@ -5,7 +5,8 @@ use crate::reason::Reason;
 use std::fmt;
 
 /// Why a call was refused. Offsets are in bytes, from the start of the slice that was handed over.
-#[derive(Debug, Clone, Copy, PartialEq, Eq)]
+#[derive(Debug, Clone, Copy, PartialEq, Eq, Hash)]
+#[non_exhaustive]
 pub enum Error {
     /// 1: the bytes end inside a field.
     Short {
@@ -102,6 +103,9 @@ impl fmt::Display for Error {
                 )
             }
             Error::Long => write!(f, "long: a count or a file is over 2,147,483,647"),
+            Error::Fault { rule, record: 0 } => {
+                write!(f, "fault: rule P{rule} is broken in the headers")
+            }
             Error::Fault { rule, record } => {
                 write!(f, "fault: rule P{rule} is broken at record {record}")
             }
@@ -208,5 +212,7 @@ mod tests {
             assert!(!lines[..i].contains(line), "two refusals say: {line}");
         }
         assert_eq!(lines[7], "fault: rule P3 is broken at record 5");
+        let headers = refused(8, 3, 0).unwrap_err().to_string();
+        assert_eq!(headers, "fault: rule P3 is broken in the headers");
     }
 }

@@ -1,10 +1,12 @@
 //! The calls of libexport.a: as include/mbenaruul.h declares them, and one safe function for each.
 //!
-//! All that is unsafe in this crate is here. Every field that crosses is a number, for which any
+//! All that is unsafe in this crate is here and in [`layout`]. Every field that crosses is a number, for which any
 //! bits are a value, and every call takes any bytes and any numbers. A slice crosses as where it
 //! begins, which is never null in Rust, and how many entries it has.
 
 #![allow(unsafe_code)]
+
+mod layout;
 
 use crate::header::{BBoxZ, Bytes, Header, IndexEntry, RecordHeader};
 use crate::pair::Totals;

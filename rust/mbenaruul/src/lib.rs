@@ -9,7 +9,8 @@
 //! | ask whether two files are a pair | [`check_pair`], or [`Verdict::of`] for the line to print |
 //! | say why they are not | [`Error::why`], [`Verdict::why`]: a [`Reason`], with its numbers and a text |
 //! | read the records of a pair | [`Plan::check`], then [`Plan::record`] or [`Plan::records`] |
-//! | write a pair | [`Writer`] |
+//! | write a pair | [`Writer`], with [`Tables::with_true_bbox`] for shapes without a box |
+//! | write what was read | [`Writer::add_record`], or [`Record::tables`] to change something first |
 //! | read a header, an index entry or a record by itself | [`read_header`], [`read_record_header`], [`read_index_entry`], [`read_record`] |
 //! | test or close rings | [`is_part_closed`], [`close_points_if_not_already`], [`ring_type_from_points_ordering`] |
 //!
@@ -17,25 +18,25 @@
 //! which other readers do not notice:
 //!
 //! ```
-//! use mbenaruul::{check_pair, kind, BBoxZ, Error, Plan, Record, Tables, Writer};
+//! use mbenaruul::{check_pair, kind, Error, Plan, Record, Tables, Writer};
 //!
 //! # fn main() -> Result<(), Error> {
 //! let mut writer = Writer::new();
 //! for y in [0.0, 4.0] {
-//!     writer.add(&Tables {
+//!     let run = Tables {
 //!         kind: kind::POLYLINE,
-//!         bbox: BBoxZ { xmin: 0.0, ymin: y, xmax: 9.0, ymax: y, ..BBoxZ::default() },
 //!         counts: &[2], // one part of two points
 //!         xy: &[0.0, y, 9.0, y],
 //!         ..Tables::default()
-//!     })?;
+//!     };
+//!     writer.add(&run.with_true_bbox())?;
 //! }
 //! let (shp, mut shx) = writer.finish()?;
 //!
 //! let plan = Plan::check(&shp, &shx)?;
 //! assert_eq!(plan.totals().to_string(), "records=2 parts=2 points=4");
 //! match plan.record(2) {
-//!     Some(Ok(Record::Parts(run))) => assert_eq!(run.xy, [0.0, 4.0, 9.0, 4.0]),
+//!     Some(Ok(Record::Parts(run))) => assert!(run.points().eq([[0.0, 4.0], [9.0, 4.0]])),
 //!     other => panic!("record 2 is a shelf run, and not {:?}", other),
 //! }
 //!
@@ -50,6 +51,13 @@
 //! ```
 //!
 //! Kinds are the codes that stand in files, by name in [`kind`].
+//!
+//! What computes with doubles assumes the processor's default floating-point mode, as Rust does:
+//! round to nearest, and denormal numbers kept (no flush-to-zero, no denormals-are-zero). It is
+//! assumed by the turning of rings ([`ring_type_from_points_ordering`]), the header's box when a
+//! record is added ([`Writer`]), and the m values of a record that is read ([`read_record`]).
+//! The rest does not depend on it, whether a ring is closed (P15, [`is_part_closed`],
+//! [`close_points_if_not_already`]) included.
 
 #![deny(missing_docs)]
 #![deny(unsafe_code)]
@@ -69,11 +77,11 @@ pub use header::{
     read_header, read_index_entry, read_record_header, BBoxZ, Bytes, Header, IndexEntry,
     RecordHeader, Words,
 };
-pub use pair::{check_pair, Plan, Totals, Verdict};
+pub use pair::{check_pair, Plan, Records, Totals, Verdict};
 pub use reason::{Cause, Double, File, Reason};
-pub use record::{read_record, BBox, Range, Record, Shape};
+pub use record::{read_record, BBox, Range, Record, Shape, NO_DATA};
 pub use rings::{
-    close_points_if_not_already, is_part_closed, ring_type_from_points_ordering, RingType,
+    close_points_if_not_already, is_part_closed, points, ring_type_from_points_ordering, RingType,
 };
 pub use writer::{Tables, Writer};
 

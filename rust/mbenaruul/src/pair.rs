@@ -6,6 +6,8 @@ use crate::header::{read_header, read_index_entry, Header};
 use crate::reason::Reason;
 use crate::record::{read_record, Record};
 use std::fmt;
+use std::iter::FusedIterator;
+use std::ops::Range;
 
 /// What an accepted pair holds. A point counts no part and one point, a Null record neither.
 #[repr(C)]
@@ -134,9 +136,13 @@ impl<'a> Plan<'a> {
         }
     }
 
-    /// All records in turn.
-    pub fn records(&self) -> impl Iterator<Item = Result<Record, Error>> + '_ {
-        (1..=self.len()).map(move |k| self.read(k))
+    /// All records in turn. Each is read when the iterator comes to it, and one that is skipped is
+    /// not read.
+    pub fn records(&self) -> Records<'a> {
+        Records {
+            plan: *self,
+            left: 1..self.len() + 1,
+        }
     }
 
     /// The pair was accepted: entry k is there, and the record that it names lies in the .shp.
@@ -147,3 +153,51 @@ impl<'a> Plan<'a> {
         read_record(&self.shp[content..content + size.0 as usize], size, None)
     }
 }
+
+impl<'a> IntoIterator for &Plan<'a> {
+    type Item = Result<Record, Error>;
+    type IntoIter = Records<'a>;
+
+    fn into_iter(self) -> Records<'a> {
+        self.records()
+    }
+}
+
+/// The records of a [`Plan`] in turn, from both ends. It borrows the bytes of the two files, and not
+/// the plan.
+#[derive(Debug, Clone)]
+pub struct Records<'a> {
+    plan: Plan<'a>,
+    /// The numbers of the records that were not given yet.
+    left: Range<usize>,
+}
+
+impl Iterator for Records<'_> {
+    type Item = Result<Record, Error>;
+
+    fn next(&mut self) -> Option<Self::Item> {
+        self.left.next().map(|k| self.plan.read(k))
+    }
+
+    fn nth(&mut self, skipped: usize) -> Option<Self::Item> {
+        self.left.nth(skipped).map(|k| self.plan.read(k))
+    }
+
+    fn size_hint(&self) -> (usize, Option<usize>) {
+        self.left.size_hint()
+    }
+}
+
+impl DoubleEndedIterator for Records<'_> {
+    fn next_back(&mut self) -> Option<Self::Item> {
+        self.left.next_back().map(|k| self.plan.read(k))
+    }
+
+    fn nth_back(&mut self, skipped: usize) -> Option<Self::Item> {
+        self.left.nth_back(skipped).map(|k| self.plan.read(k))
+    }
+}
+
+impl ExactSizeIterator for Records<'_> {}
+
+impl FusedIterator for Records<'_> {}

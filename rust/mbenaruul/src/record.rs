@@ -4,10 +4,17 @@ use crate::error::Error;
 use crate::ffi::{self, Stores};
 use crate::header::{BBoxZ, Bytes};
 use crate::kind;
+use crate::rings;
 use crate::writer::Tables;
+use std::slice;
+
+/// An m that is no data: what [`read_record`] gives for a lesser m and for NaN, and what
+/// [`Record::with_no_data`] fills in. (By ESRI's paper any number below -10^38 is no data.)
+pub const NO_DATA: f64 = -10e38;
 
 /// What a record holds.
 #[derive(Debug, Clone, PartialEq)]
+#[non_exhaustive]
 pub enum Record {
     /// No shape.
     Null,
@@ -15,10 +22,8 @@ pub enum Record {
     Point {
         /// One of the three point kinds.
         kind: i32,
-        /// As in the file.
-        x: f64,
-        /// As in the file.
-        y: f64,
+        /// x and y, as in the file.
+        xy: [f64; 2],
         /// As in the file, where the kind has z.
         z: Option<f64>,
         /// As in the file, where the kind has m.
@@ -45,8 +50,8 @@ pub struct Shape {
     pub xy: Vec<f64>,
     /// One z for each point, where the kind has z; else none.
     pub z: Vec<f64>,
-    /// One m for each point, where the record has m; else none. A value below -10e38, or one
-    /// that is not a number, stands as -10e38.
+    /// One m for each point, where the record has m; else none. A value below [`NO_DATA`], or one
+    /// that is not a number, stands as `NO_DATA`.
     pub m: Vec<f64>,
 }
 
@@ -74,10 +79,67 @@ pub struct Range {
     pub high: f64,
 }
 
+impl Range {
+    /// The range of values none of which is data.
+    pub(crate) const NO_DATA: Range = Range {
+        low: NO_DATA,
+        high: NO_DATA,
+    };
+}
+
+impl Record {
+    /// The kind's code; that of Null for a record without a shape.
+    pub fn kind(&self) -> i32 {
+        match self {
+            Record::Null => kind::NULL,
+            Record::Point { kind, .. } => *kind,
+            Record::Parts(shape) => shape.kind,
+        }
+    }
+
+    /// Whether m lacks: a shape with parts may be of a kind with m and have none. The writer always
+    /// writes the m of such a kind, and refuses the record with [`Error::Tables`];
+    /// [`with_no_data`](Record::with_no_data) gives one that it takes.
+    pub fn lacks_m(&self) -> bool {
+        matches!(self, Record::Parts(shape) if shape.lacks_m())
+    }
+
+    /// The record with m: where it lacks, each point has [`NO_DATA`], and so has the range. A record
+    /// that does not [lack m](Record::lacks_m) is as it was.
+    pub fn with_no_data(mut self) -> Record {
+        if let Record::Parts(shape) = &mut self {
+            shape.fill_m();
+        }
+        self
+    }
+
+    /// The record as the writer takes it, and as it stands here: one that [lacks
+    /// m](Record::lacks_m) has no m in its tables either. The Null record is refused there with 9.
+    pub fn tables(&self) -> Tables<'_> {
+        match self {
+            Record::Null => Tables::default(),
+            Record::Point { kind, xy, z, m } => Tables {
+                kind: *kind,
+                xy,
+                z: z.as_ref().map_or(&[], slice::from_ref),
+                m: m.as_ref().map_or(&[], slice::from_ref),
+                ..Tables::default()
+            },
+            Record::Parts(shape) => shape.tables(),
+        }
+    }
+}
+
 impl Shape {
-    /// The points of each part in turn: as many as its count says, or as are left in a shape that
-    /// was not read but put together.
-    pub fn parts(&self) -> impl Iterator<Item = &[f64]> + '_ {
+    /// The points of all parts in turn, as pairs of x and y.
+    pub fn points(&self) -> impl DoubleEndedIterator<Item = [f64; 2]> + ExactSizeIterator + '_ {
+        rings::points(&self.xy)
+    }
+
+    /// The run x0 y0 x1 y1 .. of each part in turn, which [`points`](crate::points) gives as pairs:
+    /// as many points as the part's count says, or as are left in a shape that was not read but put
+    /// together.
+    pub fn parts(&self) -> impl ExactSizeIterator<Item = &[f64]> + '_ {
         let mut rest = &self.xy[..];
         self.counts.iter().map(move |&count| {
             let (part, after) = rest.split_at(rest.len().min(2 * count as usize));
@@ -86,8 +148,20 @@ impl Shape {
         })
     }
 
-    /// The shape as the writer takes it. One that lacks m, though its kind has it, is refused
-    /// there with 10.
+    /// As [`Record::lacks_m`].
+    pub fn lacks_m(&self) -> bool {
+        kind::has_m(self.kind) && self.m_range.is_none() && self.m.is_empty()
+    }
+
+    fn fill_m(&mut self) {
+        if self.lacks_m() {
+            let points = self.points().len();
+            self.m = vec![NO_DATA; points];
+            self.m_range = Some(Range::NO_DATA);
+        }
+    }
+
+    /// As [`Record::tables`].
     pub fn tables(&self) -> Tables<'_> {
         let z = self.z_range.unwrap_or_default();
         let m = self.m_range.unwrap_or_default();
@@ -166,8 +240,7 @@ fn record_of(read: ffi::RecordRead, stores: Stores) -> Record {
 fn point_of(kind: i32, point: ffi::Point) -> Record {
     Record::Point {
         kind,
-        x: point.x,
-        y: point.y,
+        xy: [point.x, point.y],
         z: kind::has_z(kind).then_some(point.z),
         m: kind::has_m(kind).then_some(point.m),
     }

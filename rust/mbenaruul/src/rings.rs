@@ -1,5 +1,5 @@
-//! Rings: whether a run of points is closed, closing it, and which way it turns. A run is a flat
-//! list of coordinates, x0 y0 x1 y1 ..
+//! Runs of points, flat lists of coordinates x0 y0 x1 y1 ..: the points as pairs, whether a run is
+//! closed, closing it, and which way it turns.
 
 use crate::error::Error;
 use crate::ffi;
@@ -11,6 +11,11 @@ pub enum RingType {
     OuterRing,
     /// Counterclockwise: it bounds a hole.
     InnerRing,
+}
+
+/// The points of a run, as pairs of x and y. A last coordinate that has no second is passed over.
+pub fn points(run: &[f64]) -> impl DoubleEndedIterator<Item = [f64; 2]> + ExactSizeIterator + '_ {
+    run.chunks_exact(2).map(|point| [point[0], point[1]])
 }
 
 /// Whether there is a first point and it equals the last. Refusal: 10 for an odd number of

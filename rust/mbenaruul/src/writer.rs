@@ -3,19 +3,19 @@
 use crate::error::Error;
 use crate::ffi;
 use crate::header::BBoxZ;
-use crate::kind;
-use crate::record::Record;
-use std::slice;
+use crate::record::{Range, Record};
 
 /// A shape to write, in flat tables. The part counts sum to the number of points, n; xy holds 2n
 /// doubles; z and m hold n where the kind has them, else none. A point kind has no parts and n is
 /// 1.
+///
+/// The tables of a record that was read are [`Record::tables`].
 #[derive(Debug, Clone, Copy, Default, PartialEq)]
 pub struct Tables<'a> {
     /// The kind's code: any of [`kind`](crate::kind) but Null.
     pub kind: i32,
-    /// The shape's box and ranges, which are written as given. A point has none: its own values
-    /// count.
+    /// The shape's box and ranges, which are written as given; [`Tables::with_true_bbox`] puts the
+    /// true ones here. A point has none: its own values count.
     pub bbox: BBoxZ,
     /// The number of points of each part.
     pub counts: &'a [u32],
@@ -27,8 +27,66 @@ pub struct Tables<'a> {
     pub m: &'a [f64],
 }
 
+impl Tables<'_> {
+    /// The box and the ranges that these tables have: the least and the greatest x, y, z and m.
+    ///
+    /// NaN is passed over, and -0 lies below 0. Of m those values count that are data: not below
+    /// -10^38. Where no value is left, both ends are 0; but where there are m, and none is data, both
+    /// are [`NO_DATA`](crate::NO_DATA).
+    pub fn true_bbox(&self) -> BBoxZ {
+        let axis = |first| range_of(self.xy.iter().skip(first).step_by(2)).unwrap_or_default();
+        let (x, y) = (axis(0), axis(1));
+        let z = range_of(self.z.iter()).unwrap_or_default();
+        let none = if self.m.is_empty() {
+            Range::default()
+        } else {
+            Range::NO_DATA
+        };
+        let m = range_of(self.m.iter().filter(|m| is_data(**m))).unwrap_or(none);
+        BBoxZ {
+            xmin: x.low,
+            ymin: y.low,
+            xmax: x.high,
+            ymax: y.high,
+            zmin: z.low,
+            zmax: z.high,
+            mmin: m.low,
+            mmax: m.high,
+        }
+    }
+
+    /// The same tables with their [true box](Tables::true_bbox), in the place of the one that they
+    /// came with.
+    pub fn with_true_bbox(self) -> Self {
+        Tables {
+            bbox: self.true_bbox(),
+            ..self
+        }
+    }
+}
+
+/// By ESRI's paper; NaN is no data, as it is for the reader.
+fn is_data(m: f64) -> bool {
+    m >= -1e38
+}
+
+/// The least and the greatest of the values that are numbers, where there are any. They are ordered
+/// by their bits, so that it does not matter which of two zeros comes first.
+fn range_of<'a>(values: impl Iterator<Item = &'a f64> + Clone) -> Option<Range> {
+    let numbers = values.copied().filter(|value| !value.is_nan());
+    Some(Range {
+        low: numbers.clone().min_by(f64::total_cmp)?,
+        high: numbers.max_by(f64::total_cmp)?,
+    })
+}
+
 /// The two files of a pair, while records are added. All records have the kind of the first.
 /// A clone can be finished halfway.
+///
+/// The writer judges kinds and the lengths of tables. It does not judge what the tables hold: a ring
+/// that is not closed, NaN or an infinity, a part of one point or of none, and a box that is not the
+/// true one are written as given. Of the pair that comes out, [`check_pair`](crate::check_pair)
+/// judges all of these but the boxes.
 #[derive(Debug, Clone)]
 pub struct Writer {
     state: ffi::State,
@@ -69,23 +127,11 @@ impl Writer {
         Ok(())
     }
 
-    /// Adds what was read as the next record. Refusals as those of [`add`](Writer::add); a Null
-    /// record is 9.
+    /// Adds what was read as the next record. Refusals as those of [`add`](Writer::add): a Null
+    /// record is 9, and one that [lacks m](Record::lacks_m) is 10, unless its m is filled in by
+    /// [`Record::with_no_data`].
     pub fn add_record(&mut self, record: &Record) -> Result<(), Error> {
-        match record {
-            Record::Null => self.add(&Tables {
-                kind: kind::NULL,
-                ..Tables::default()
-            }),
-            Record::Point { kind, x, y, z, m } => self.add(&Tables {
-                kind: *kind,
-                xy: &[*x, *y],
-                z: z.as_ref().map_or(&[], slice::from_ref),
-                m: m.as_ref().map_or(&[], slice::from_ref),
-                ..Tables::default()
-            }),
-            Record::Parts(shape) => self.add(&shape.tables()),
-        }
+        self.add(&record.tables())
     }
 
     /// The .shp and the .shx, whole. A writer of this crate is never refused.
@@ -112,6 +158,7 @@ impl Writer {
 #[cfg(test)]
 mod tests {
     use super::*;
+    use crate::kind;
 
     const SEGMENT: Tables<'_> = Tables {
         kind: kind::POLYLINE,

@@ -156,8 +156,7 @@ fn points_have_the_values_of_their_kind() {
     };
     let point = |kind, z, m| Record::Point {
         kind,
-        x: 1.0,
-        y: 2.0,
+        xy: [1.0, 2.0],
         z,
         m,
     };

@@ -6,8 +6,8 @@ mod common;
 use common::content;
 use mbenaruul::{
     check_pair, close_points_if_not_already, is_part_closed, read_header, read_index_entry,
-    read_record, read_record_header, ring_type_from_points_ordering, Bytes, Error, Record, Tables,
-    Writer,
+    read_record, read_record_header, ring_type_from_points_ordering, Bytes, Error, Plan, Record,
+    Tables, Writer,
 };
 use std::alloc::{GlobalAlloc, Layout, System};
 use std::cell::Cell;
@@ -116,6 +116,27 @@ fn the_largest_shape_for_its_bytes_takes_twice_their_memory() {
         Ok(Record::Parts(shape)) => assert_eq!(shape.xy, [0.5; 20_000]),
         other => panic!("{other:?}"),
     }
+}
+
+#[test]
+fn a_record_that_is_skipped_is_not_read() {
+    let mut writer = Writer::new();
+    for _ in 0..100 {
+        let run = Tables {
+            kind: 3,
+            counts: &[2],
+            xy: &[0.0, 0.0, 1.0, 1.0],
+            ..Tables::default()
+        };
+        writer.add(&run).unwrap();
+    }
+    let (shp, shx) = writer.finish().unwrap();
+    let plan = Plan::check(&shp, &shx).unwrap();
+    let before = ASKED.with(Cell::get);
+    assert!(plan.records().nth(98).is_some() && plan.records().nth_back(98).is_some());
+    let asked = ASKED.with(Cell::get) - before;
+    // two records, each with a content of 80 bytes
+    assert!(asked <= 2 * 2 * 80, "{asked} bytes");
 }
 
 #[test]

@@ -7,6 +7,7 @@ use mbenaruul::{
     check_pair, close_points_if_not_already, is_part_closed, read_header, read_index_entry,
     read_record, read_record_header, ring_type_from_points_ordering, Bytes, Error, Tables, Writer,
 };
+use std::collections::HashSet;
 
 /// A polyline of one part and two points, and its size: 40 words.
 fn segment() -> Vec<u8> {
@@ -175,6 +176,8 @@ fn fault_8() {
         check_pair(&[], &[]),
         Err(Error::Fault { rule: 1, record: 0 })
     );
+    let said = check_pair(&[], &[]).unwrap_err().to_string();
+    assert_eq!(said, "fault: rule P1 is broken in the headers");
     let shp = header(9994, 50, 3);
     assert_eq!(
         check_pair(&shp, &shp[..99]),
@@ -293,4 +296,31 @@ fn tables_10_of_a_shape() {
     for tables in &wrong {
         assert_eq!(Writer::new().add(tables), Err(Error::Tables), "{tables:?}");
     }
+}
+
+/// There may be more refusals one day: were `Error` exhaustive, the last arm would be unreachable, and
+/// this would not build.
+#[deny(unreachable_patterns)]
+fn has_values(refused: &Error) -> bool {
+    match refused {
+        Error::Short { .. } | Error::Size { .. } | Error::Room { .. } => true,
+        Error::Code(_) | Error::Unknown(_) | Error::NotTaken(_) => true,
+        Error::Mismatch { .. } | Error::Fault { .. } => true,
+        Error::Long | Error::Tables => false,
+        other => panic!("a refusal that there was not: {other}"),
+    }
+}
+
+#[test]
+fn refusals_can_be_kept_in_a_set() {
+    let refused = [
+        read_header(&[]).unwrap_err(),
+        read_index_entry(&[]).unwrap_err(),
+        read_index_entry(&[0; 4]).unwrap_err(),
+        is_part_closed(&[0.0]).unwrap_err(),
+    ];
+    let set = HashSet::from(refused);
+    assert_eq!(set.len(), 3);
+    assert!(set.contains(&Error::Short { at: 4 }));
+    assert_eq!(set.iter().filter(|refused| has_values(refused)).count(), 2);
 }

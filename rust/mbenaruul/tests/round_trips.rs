@@ -3,7 +3,7 @@
 mod common;
 
 use common::{read_all, record, totals, written, Random, KINDS};
-use mbenaruul::{Plan, Record, Verdict};
+use mbenaruul::{points, Plan, Record, Records, Verdict};
 
 #[test]
 fn what_is_written_is_a_pair_and_reads_back() {
@@ -39,12 +39,61 @@ fn a_record_is_found_by_its_number_from_1() {
     }
 }
 
+/// The records borrow the bytes; the plan is gone.
+fn records<'a>((shp, shx): &'a (Vec<u8>, Vec<u8>)) -> Records<'a> {
+    Plan::check(shp, shx).unwrap().records()
+}
+
+#[test]
+fn records_come_from_both_ends_and_are_counted() {
+    let mut random = Random::new(8);
+    let all: Vec<Record> = (0..6).map(|_| record(5, &mut random)).collect();
+    let pair = written(&all);
+    let mut left = records(&pair);
+    let mut expected = all.iter();
+    assert_eq!(left.len(), 6);
+    // from the front, the back, the front behind one, the back before one
+    assert_eq!(left.next().unwrap().as_ref(), Ok(expected.next().unwrap()));
+    let back = left.next_back().unwrap();
+    assert_eq!(back.as_ref(), Ok(expected.next_back().unwrap()));
+    assert_eq!(left.nth(1).unwrap().as_ref(), Ok(expected.nth(1).unwrap()));
+    assert_eq!((left.len(), left.size_hint()), (2, (2, Some(2))));
+    let back = left.nth_back(1).unwrap();
+    assert_eq!(back.as_ref(), Ok(expected.nth_back(1).unwrap()));
+    assert_eq!(left.len(), 0);
+    assert_eq!((left.next(), left.next_back()), (None, None));
+
+    let back: Vec<Record> = records(&pair).rev().map(Result::unwrap).collect();
+    assert!(back.iter().rev().eq(&all));
+    let mut times = 0;
+    for record in &Plan::check(&pair.0, &pair.1).unwrap() {
+        assert_eq!(record.as_ref(), Ok(&all[times]));
+        times += 1;
+    }
+    assert_eq!(times, 6);
+}
+
+#[test]
+fn points_are_pairs_of_a_shape_and_of_each_part() {
+    for kind in [3, 5, 13, 15] {
+        if let Record::Parts(shape) = record(kind, &mut Random::new(kind as u64)) {
+            assert_eq!(shape.points().len(), shape.xy.len() / 2);
+            assert!(shape.points().flatten().eq(shape.xy.iter().copied()));
+            assert!(shape.parts().flat_map(points).eq(shape.points()));
+            assert_eq!(shape.parts().len(), shape.counts.len());
+            let last = [shape.xy[shape.xy.len() - 2], shape.xy[shape.xy.len() - 1]];
+            assert_eq!(shape.points().next_back(), Some(last));
+        }
+    }
+    assert!(points(&[1.0, 2.0, 3.0]).eq([[1.0, 2.0]]));
+}
+
 #[test]
 fn a_pair_without_a_record_is_a_pair() {
     let (shp, shx) = written(&[]);
     let plan = Plan::check(&shp, &shx).unwrap();
     assert!(plan.is_empty());
-    assert_eq!((plan.record(1), plan.records().count()), (None, 0));
+    assert_eq!((plan.record(1), plan.records().len()), (None, 0));
     assert_eq!(
         Verdict::of(&shp, &shx).to_string(),
         "yes records=0 parts=0 points=0"

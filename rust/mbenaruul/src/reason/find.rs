@@ -3,6 +3,7 @@
 
 use super::{Cause, Double, File, Reason};
 use crate::kind;
+use crate::rings::is_part_closed;
 
 impl Reason {
     /// What breaks this rule in this record; none, where these two files do not break it there.
@@ -354,7 +355,8 @@ impl<'a> Place<'a> {
             let point = |at| Some([double(self.shp, at)?, double(self.shp, at + 8)?]);
             let last_at = at(to.checked_sub(1)?)?;
             let (first, last) = (point(at(from)?)?, point(last_at)?);
-            if first != last {
+            // what the checker asks of a ring, whatever the floating-point mode
+            if is_part_closed(&[first, last].concat()) == Ok(false) {
                 let cause = Cause::OpenRing { ring, first, last };
                 return Some((File::Shp, last_at, cause));
             }

@@ -73,8 +73,7 @@ pub fn record(kind: i32, random: &mut Random) -> Record {
     if is_point(kind) {
         Record::Point {
             kind,
-            x: random.double(),
-            y: random.double(),
+            xy: [random.double(), random.double()],
             z: has_z(kind).then(|| random.double()),
             m: has_m(kind).then(|| random.double()),
         }
@@ -114,7 +113,9 @@ fn shape(kind: i32, random: &mut Random) -> Shape {
     }
 }
 
-/// What the checker has to count in these records.
+/// What the checker has to count in these records. There may be more variants one day: were `Record`
+/// exhaustive, the last arm would be unreachable, and this would not build.
+#[deny(unreachable_patterns)]
 pub fn totals(records: &[Record]) -> Totals {
     let mut totals = Totals {
         records: records.len(),
@@ -127,8 +128,9 @@ pub fn totals(records: &[Record]) -> Totals {
             Record::Point { .. } => totals.points += 1,
             Record::Parts(shape) => {
                 totals.parts += shape.counts.len();
-                totals.points += shape.xy.len() / 2;
+                totals.points += shape.points().len();
             }
+            other => panic!("a kind of record that there was not: {other:?}"),
         }
     }
     totals

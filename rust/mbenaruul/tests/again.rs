@@ -1,0 +1,97 @@
+//! What was read is written again: the tables of every record, and the m that lacks.
+
+mod common;
+
+use common::{bytes, read_all, record, written, Random, KINDS};
+use mbenaruul::{kind, Error, Plan, Range, Record, Shape, Tables, Writer, NO_DATA};
+
+fn shape_of(record: &Record) -> &Shape {
+    match record {
+        Record::Parts(shape) => shape,
+        other => panic!("{other:?}"),
+    }
+}
+
+#[test]
+fn the_tables_of_every_kind_are_taken() {
+    for kind in KINDS {
+        let mut random = Random::new(kind as u64);
+        let record = record(kind, &mut random);
+        assert_eq!((record.kind(), record.lacks_m()), (kind, false));
+        assert_eq!(record.clone().with_no_data(), record);
+        let mut writer = Writer::new();
+        writer.add(&record.tables()).unwrap();
+        assert_eq!(writer.finish().unwrap(), written(&[record]));
+    }
+    assert_eq!((Record::Null.kind(), Record::Null.lacks_m()), (0, false));
+    assert_eq!(Record::Null.with_no_data(), Record::Null);
+    let refused = Writer::new().add(&Record::Null.tables());
+    assert_eq!(refused, Err(Error::NotTaken(kind::NULL)));
+}
+
+#[test]
+fn tables_can_be_changed_before_they_are_written() {
+    let read = record(kind::POLYLINE_Z, &mut Random::new(3));
+    let mut writer = Writer::new();
+    let flat = Tables {
+        kind: kind::POLYLINE,
+        z: &[],
+        m: &[],
+        ..read.tables()
+    };
+    writer.add(&flat).unwrap();
+    let (shp, shx) = writer.finish().unwrap();
+    let again = read_all(&Plan::check(&shp, &shx).unwrap());
+    assert_eq!(shape_of(&again[0]).xy, shape_of(&read).xy);
+    assert_eq!(again[0].kind(), kind::POLYLINE);
+}
+
+/// The record with m as it has to come back.
+fn filled(record: Record) -> Record {
+    match record {
+        Record::Parts(shape) if shape.m_range.is_none() => Record::Parts(Shape {
+            m_range: Some(Range {
+                low: NO_DATA,
+                high: NO_DATA,
+            }),
+            m: vec![NO_DATA; shape.xy.len() / 2],
+            ..shape
+        }),
+        whole => whole,
+    }
+}
+
+#[test]
+fn m_that_lacks_is_filled_with_no_data() {
+    for kind in [13, 15, 23, 25] {
+        let [shp, shx] = ["shp", "shx"].map(|end| bytes(&format!("lacks_m_{kind}.{end}")));
+        let plan = Plan::check(&shp, &shx).unwrap();
+        let mut writer = Writer::new();
+        let mut lacking = 0;
+        for record in &plan {
+            let record = record.unwrap();
+            if record.lacks_m() {
+                assert_eq!(writer.add_record(&record), Err(Error::Tables));
+                lacking += 1;
+            }
+            writer.add_record(&record.with_no_data()).unwrap();
+        }
+        assert!(lacking > 0);
+        let (own_shp, own_shx) = writer.finish().unwrap();
+        let own = Plan::check(&own_shp, &own_shx).unwrap();
+        assert_eq!(own.totals(), plan.totals());
+        let expected: Vec<Record> = read_all(&plan).into_iter().map(filled).collect();
+        assert_eq!(read_all(&own), expected);
+    }
+}
+
+#[test]
+fn an_m_that_is_there_is_not_filled() {
+    let shape = Shape {
+        m_range: None,
+        ..shape_of(&record(kind::POLYGON_M, &mut Random::new(5))).clone()
+    };
+    let put_together = Record::Parts(shape);
+    assert!(!put_together.lacks_m());
+    assert_eq!(put_together.clone().with_no_data(), put_together);
+}
