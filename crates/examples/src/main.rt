@@ -146,16 +146,23 @@ fn show_words(f: Formula, p: u32, n: u32) {
     }
 }
 
-fn show_content(code: u32, p: u32, n: u32) {
+fn show_content(code: i32, p: u32, n: u32) {
     say(b"words of");
-    number(code as u64);
+    signed(code);
     say(b":");
     match format::lengths::lengths_of(code) {
         Content::Taken(l) => {
             show_words(l.without, p, n);
             show_words(l.with, p, n);
         }
-        Content::NotTaken => say(b" 9"),
+        Content::NotTaken(found) => {
+            say(b" 9");
+            signed(found);
+        }
+        Content::Unknown(found) => {
+            say(b" 4");
+            signed(found);
+        }
     }
     end();
 }
@@ -166,6 +173,8 @@ fn lengths() {
     show_content(11, 0, 1);
     show_content(0, 0, 0);
     show_content(8, 0, 1);
+    show_content(2, 0, 1);
+    show_content(-3, 0, 1);
     show_content(13, 2147483647, 2147483647);
     say(b"entry 50, 40:");
     let e = header::entries::index_entry_bytes(ShapeIndex {
@@ -178,13 +187,13 @@ fn lengths() {
     say(b"words of 189 bytes:");
     match format::units::to_words(Bytes(189)) {
         InWords::Is(w) => signed(w.0),
-        InWords::Not => say(b" not"),
+        InWords::Not => say(b" 3 0"),
     }
     end();
     say(b"bytes of -3 words, halved:");
     match format::units::to_words(format::units::to_bytes(Words(-3))) {
         InWords::Is(w) => signed(w.0),
-        InWords::Not => say(b" not"),
+        InWords::Not => say(b" 3 0"),
     }
     end();
 }
@@ -201,7 +210,10 @@ fn show_kind(code: i32) {
             number(k.m as u64);
             number(k.parts as u64);
         }
-        Found::Unknown => say(b" 4"),
+        Found::Unknown(found) => {
+            say(b" 4");
+            signed(found);
+        }
     }
     end();
 }

@@ -2,15 +2,14 @@
 use mathlib.Core.Path.{_≡_}
 use mathlib.Core.Bool.{Bool, false, cond}
 use mathlib.Core.List.{List, [], _∷_, _++_, map, flatten}
-use mathlib.Core.Option.{Option, none, some, bind}
+use mathlib.Core.Option.{none}
 use Prim.Native.Nat.{ℕ, zero, suc, _+_}
 use lib.Ieee.{Float, binary64, ofInt, toBits}
 use lib.IntN.{ℤ, pos}
 use lib.ListN.{length, take, replicate}
 use Rattle.format.specs.Encoding.{Box, Entry, headerBytes, entriesFrom}
 use Rattle.format.specs.declared.lengths.Lengths.{Lengths}
-use Rattle.format.specs.Kinds.{kindAt}
-use Rattle.format.specs.Lengths.{lengthsOf, formulaWords}
+use Rattle.format.specs.Lengths.{contentOf, formulaWords}
 use Rattle.format.specs.Numbers.{little, double}
 use Rattle.format.specs.Said.{Said, gives, refuses}
 use Rattle.format.specs.Shapes.{Shape, parted}
@@ -46,12 +45,9 @@ read s = shown (λ (h : Header). h .«file_length» .0 ∷ []) (headerOf s)
 -- ---- lengths
 
 -- p parts and n points by the two formulas of the kind that the table has at this code, without m and with it
-abbrev lengthsBy : Option Lengths → ℕ → ℕ → List ℤ
-lengthsBy none p n = []
-lengthsBy (some l) p n = pos (formulaWords (l .without) p n) ∷ pos (formulaWords (l .with) p n) ∷ []
-
-abbrev lengthsAt : ℕ → ℕ → ℕ → List ℤ
-lengthsAt code p n = lengthsBy (bind (kindAt (pos code)) lengthsOf) p n
+abbrev lengthsAt : ℤ → ℕ → ℕ → List ℤ
+lengthsAt code p n =
+    shown (λ (l : Lengths). pos (formulaWords (l .without) p n) ∷ pos (formulaWords (l .with) p n) ∷ []) (contentOf code)
 
 -- a Polyline of one part and two points
 abbrev line : Shape
@@ -124,10 +120,10 @@ rows =
     ∷ record { given = read (header 0xffff_ffff); document = pos 3 ∷ pos 24 ∷ [] }
     ∷ record { given = read (header 0); document = pos 0 ∷ pos 0 ∷ [] }
     -- Polyline p=1, n=2: 40 words, by both formulas, since the kind has no m; its index entry is 50, 40; a second record starts at word 94
-    ∷ record { given = lengthsAt 3 1 2; document = pos 40 ∷ pos 40 ∷ [] }
+    ∷ record { given = lengthsAt (pos 3) 1 2; document = pos 0 ∷ pos 40 ∷ pos 40 ∷ [] }
     ∷ record { given = entries (entriesFrom 50 (line ∷ line ∷ [])); document = pos 50 ∷ pos 40 ∷ pos 94 ∷ pos 40 ∷ [] }
     -- PolygonZ p=1, n=5: 92 or 120 words
-    ∷ record { given = lengthsAt 15 1 5; document = pos 92 ∷ pos 120 ∷ [] }
+    ∷ record { given = lengthsAt (pos 15) 1 5; document = pos 0 ∷ pos 92 ∷ pos 120 ∷ [] }
     -- n=5: starts 0, 2 give 2 and 3 points; start 3 gives one part of 2, the first two pairs; start -2 reads 7
     ∷ record { given = readCounts (body (0 ∷ 2 ∷ []) 5 5); document = pos 0 ∷ pos 2 ∷ pos 3 ∷ [] }
     ∷ record { given = readPairs (body (3 ∷ []) 5 5); document = pos 0 ∷ pos 2 ∷ pos 1 ∷ pos 2 ∷ pos 3 ∷ pos 4 ∷ [] }
