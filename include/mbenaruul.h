@@ -10,12 +10,9 @@
  * and with so much it then succeeds. For p parts and n points, counts takes p, xy 2n, z and m n each, where the record has them; of an output
  * the bytes are told, start included. rust/c/write.c asks so, both when it writes and when it reads.
  *
- * What computes with doubles assumes the processor's default floating-point mode: round to nearest, denormal numbers kept (no flush-to-zero,
- * no denormals-are-zero, which -ffast-math may switch on). These compute with doubles:
- *   - mbenaruul_ring_type_from_points_ordering
- *   - mbenaruul_add_record and mbenaruul_write_shape, for the box in the state
- *   - mbenaruul_read_record and mbenaruul_read_record_of, for m values
- * The rest does not depend on it, whether a ring is closed (P15, mbenaruul_is_part_closed, mbenaruul_close_points_if_not_already) included.
+ * mbenaruul_ring_type_from_points_ordering computes with doubles, and assumes the processor's default floating-point mode: round to nearest,
+ * denormal numbers kept (no flush-to-zero, no denormals-are-zero, which -ffast-math may switch on). No other call depends on the mode: whether
+ * a ring is closed (P15 too), the box in the state and m values are decided on the bits.
  *
  * What each refusal's number means, and its values (docs/DOCUMENT-01.md, "What comes back"):
  *    0  not refused

@@ -52,12 +52,11 @@
 //!
 //! Kinds are the codes that stand in files, by name in [`kind`].
 //!
-//! What computes with doubles assumes the processor's default floating-point mode, as Rust does:
-//! round to nearest, and denormal numbers kept (no flush-to-zero, no denormals-are-zero). It is
-//! assumed by the turning of rings ([`ring_type_from_points_ordering`]), the header's box when a
-//! record is added ([`Writer`]), and the m values of a record that is read ([`read_record`]).
-//! The rest does not depend on it, whether a ring is closed (P15, [`is_part_closed`],
-//! [`close_points_if_not_already`]) included.
+//! The turning of rings ([`ring_type_from_points_ordering`]) computes with doubles and assumes the
+//! processor's default floating-point mode, as Rust does: round to nearest, and denormal numbers
+//! kept (no flush-to-zero, no denormals-are-zero). No other call of the library depends on the
+//! mode: whether a ring is closed (P15 too), the header's box and m values are decided on the
+//! bits, and so are true boxes ([`Tables::true_bbox`]).
 
 #![deny(missing_docs)]
 #![deny(unsafe_code)]
