@@ -5,13 +5,11 @@ use mathlib.Core.List.{List, [], _∷_}
 use mathlib.Core.Option.{some}
 use Prim.Native.Nat.{ℕ, _≤_, _<_}
 use native.Mathlib.Omega.{arith}
-use lib.Dec.{T, lit<}
-use lib.IntN.{ℤ, pos, negsuc, natAbs, _-ℤ_}
+use lib.Dec.{lit<}
+use lib.IntN.{ℤ, pos, _-ℤ_}
 use lib.ListN.{length}
-use lib.Signed.{nonNeg}
 use mir.Syntax.{w32}
-use mir.Val.{Fits, SFits, toZ, ofZ}
-use mir.ValLaws.{toZ-ofZ}
+use mir.Val.{SFits}
 use borrow.Author.Tests.{le-leb, lt-leb}
 use Rattle.format.specs.declared.kinds.Kind.{Kind}
 use Rattle.format.specs.declared.lengths.Content.{Content}

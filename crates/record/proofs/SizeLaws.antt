@@ -3,14 +3,11 @@ use mathlib.Core.Path.{_≡_, refl, sym, ap, _∙_, subst}
 use mathlib.Core.Bool.{Bool, true, false, _&&_, _||_}
 use Prim.Native.Nat.{ℕ, suc, _+_, _*_, _-_, _^_, _≤_, _<_}
 use native.Mathlib.Omega.{arith}
-use lib.Dec.{T, eqb, ltb}
-use lib.IntN.{ℤ, pos, negsuc, _+ℤ_, _-ℤ_}
+use lib.Dec.{T, ltb}
+use lib.IntN.{ℤ, pos, negsuc, _-ℤ_}
 use lib.Signed.{ltZ}
-use mir.Syntax.{w64}
-use mir.Val.{SFits, ofZ}
-use borrow.Author.Tests.{lt-ltb, le-ltb, ltb-true, ltb-false, eqb-true, eqb-false}
+use borrow.Author.Tests.{lt-ltb, le-ltb, ltb-true, ltb-false}
 use Rattle.format.specs.declared.kinds.Kind.{Kind}
-use Rattle.format.specs.declared.lengths.Formula.{Formula}
 use Rattle.format.specs.declared.lengths.Lengths.{Lengths}
 use Rattle.format.specs.declared.units.Bytes.{Bytes}
 use Rattle.format.specs.declared.units.InWords.{InWords}

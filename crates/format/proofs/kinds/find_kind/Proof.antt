@@ -1,11 +1,10 @@
 -- `format::kinds::find_kind` meets its contract: the table has the kind at the row that the search finds.
-use mathlib.Core.Path.{_≡_, sym, ap, ap₂, _∙_}
-use lib.IntN.{ℤ}
+use mathlib.Core.Path.{_≡_, sym, ap, _∙_}
 use mir.Syntax.{w32}
 use mir.Val.{toZ, ofZ}
 use mir.ValLaws.{toZ-ofZ}
 use borrow.Author.Needs.{needs}
-use Rattle.format.specs.Kinds.{kinds, rowAt, orUnknown, kindOf}
+use Rattle.format.specs.Kinds.{kinds, rowAt, orUnknown}
 use Rattle.format.specs.Said.{unknown}
 use Rattle.format.proofs.KindLaws.{kind-in, kind-out, kindOf-is}
 use Rattle.format.proofs.kinds.find_kind.Statement.{statement}

@@ -1,5 +1,4 @@
 -- `pair::heads::length_right` meets its contract: by the words that the header names.
-use mathlib.Core.Path.{_≡_}
 use Prim.Native.Nat.{_^_, _<_}
 use borrow.Author.Needs.{needs}
 use borrow.Author.Tests.{lt-ltb, le-ltb}
