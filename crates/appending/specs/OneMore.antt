@@ -24,7 +24,7 @@ abbrev pub KindBehind : Kind → List Shape → ℤ → Type 0
 KindBehind k [] code = code ≡ pos 0
 KindBehind k (s ∷ ss) code = kindAt code ≡ some k
 
--- the state is the one behind these shapes of that kind: the first of them stands at word 50 with number 1, and every number of theirs is held
+-- the state is the one behind these shapes of that kind: the first of them stands at word 50 with number 1, and i32 fields hold their numbers
 pub record Behind (k : Kind) (ss : List Shape) (s : State) : Type 0 where
   pub words : s .words .0 ≡ pos (endFrom 50 ss)
   pub number : s .number ≡ pos (length ss + 1)
@@ -38,8 +38,8 @@ records k ss = recordsFrom k 1 ss
 abbrev pub entries : List Shape → List ℕ
 entries ss = flatten (map entryBytes (entriesFrom 50 ss))
 
--- One shape more: it is of its kind, the next state is the one behind it, and finishing that state gives its headers, since it is no refused one. The
--- records with the new one behind them are those of the longer list, so are the entries, and with the headers in front they are its pair of files.
+-- One shape more: it is of its kind, the next state is the one behind it, and finishing does not refuse that state. The records with the new one
+-- behind them are those of the longer list, so are the entries, and with the finished headers in front they are its pair of files.
 pub record OneMore (k : Kind) (ss : List Shape) (s : State) (t : Lent) : Type 0 where
   pub of-kind : OfKind (lentKind t) (lentShape t)
   pub behind : Behind (lentKind t) (ss ++ lentShape t ∷ []) (nextState s t)
@@ -54,5 +54,6 @@ pub record OneMore (k : Kind) (ss : List Shape) (s : State) (t : Lent) : Type 0 
 abbrev pub Beginning : Type 0
 Beginning = (k : Kind) → Behind k [] fresh
 
+-- every add that is taken, into whatever buffers, on a state behind shapes
 abbrev pub Appending : Type 0
 Appending = (k : Kind) (ss : List Shape) (s : State) (t : Lent) (out start entry n : ℕ) → Behind k ss s → addingOf s t out start entry ≡ gives n → OneMore k ss s t

@@ -69,7 +69,7 @@ accepted s t out start entry n e =
       held = ltb-true _ _ (held .1);
     }
 
--- ---- the shape that was lent
+-- ---- the shape that was lent: it is of its kind, and i32 fields hold its counts
 
 pub record Fits (k : Kind) (s : Shape) : Type 0 where
   pub of-kind : OfKind k s
@@ -115,7 +115,7 @@ module _ (s : State) (t : Lent) (a : Accepted s t) where
             points-held = rw (points-in (k .z) (k .m) (t .box) (t .counts) (t .xy) (t .zs) (t .ms) (u .xy-has)) (ltb-true _ _ (held .1));
           })
 
-  -- ---- the state: behind a record its kind is the one that is added, and the next state is one
+  -- ---- the state: behind a record it has the kind that is added, and the next one is a writer state again
 
   pub kind-stays : (natAbs (s .number) ≡ 1 → ⊥) → s .kind ≡ t .code
   kind-stays h = go (isZero (s .kind)) refl (a .same-kind)
