@@ -63,11 +63,11 @@ fn store_z(s: &[u8], z: bool, n: usize, at: usize, zs: &mut [f64])
     }
 }
 
-// The larger of an m value and -10e38; that, for a NaN. No mode of the processor changes the comparison: a denormal is above -10e38 as a zero is.
+// The larger of an m value and -10e38; that, for a NaN.
 fn raise(x: f64) -> f64
     ensures { λ r. ⌜ r ≡ raised x ⌝ }
 {
-    if -10e38 < x { x } else { -10e38 }
+    if fields::below(-10e38, x) { x } else { -10e38 }
 }
 
 // The n values behind a range, raised, where the flag is set.

@@ -1,7 +1,8 @@
 -- `multipart::store::raise` meets its contract: the code's -10e38 is the definition's.
-use mathlib.Core.Path.{_≡_, refl}
+use mathlib.Core.Path.{_≡_, refl, sym, _∙_}
 use mathlib.Core.Bool.{Bool, true, false, cond}
 use lib.Ieee.{Float, binary64, lt, neg, ofBits}
+use borrow.Author.Needs.{needs}
 use Rattle.multipart.specs.Body.{noData, raised}
 use Rattle.multipart.proofs.store.raise.Statement.{statement}
 use Rattle.multipart.proofs.store.raise.Tie as tie
@@ -16,10 +17,10 @@ unfolding raised
 by-test x b e = rw (← no-data, e)
 
 returns : tie.Need-returns
-returns c = by-test (c .before .args .x) true (c .if1 .taken)
+returns c = by-test (c .before .before .args .x) true (sym (c .before .below .ensures) ∙ c .if1 .taken)
 
 returns-2 : tie.Need-returns-2
-returns-2 c = by-test (c .before .args .x) false (c .if1 .left)
+returns-2 c = by-test (c .before .before .args .x) false (sym (c .before .below .ensures) ∙ c .if1 .left)
 
 pub raise-spec : {M : Type 1} → statement M
-raise-spec = tie.close (tie.spec returns returns-2)
+raise-spec = tie.close (tie.spec (λ c κs. search needs) returns returns-2)
