@@ -122,8 +122,10 @@ pub fn bits(x: f64) -> u64
     }
 }
 
-// Two doubles, by their bits, are equal as IEEE numbers: two zeros, or equal bits that are no NaN's. A comparison of doubles would hang on
-// the processor's mode: where the calling program has denormals taken for zeros, 2^-1074 equals 0.
+// Doubles are compared by their bits. A comparison of doubles hangs on the processor's mode: where the calling program has denormals taken
+// for zeros, 2^-1074 equals 0; and of `if x < y { x } else { y }` the compiler makes the processor's minimum, which there gives 0 for 2^-1074.
+
+// Two doubles are equal as IEEE numbers: two zeros, or equal bits that are no NaN's.
 pub fn same_number(a: u64, b: u64) -> bool
     ensures { λ r. ⌜ r ≡ sameNumber a b ⌝ }
 {
@@ -155,7 +157,7 @@ fn below_number(a: u64, b: u64) -> bool
     if b < SIGN { 0 < p + q } else { q < p }
 }
 
-// The same of doubles.
+// The two of doubles that are not in bits.
 pub fn same(x: f64, y: f64) -> bool
     ensures { λ r. ⌜ r ≡ eq x y ⌝ }
 {

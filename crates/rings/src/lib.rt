@@ -22,7 +22,7 @@ pub enum RingAnswer {
     Tables,
 }
 
-// There is a first point, and it equals the last, in every mode of the processor.
+// There is a first point, and it equals the last.
 pub fn is_part_closed(xy: &[f64]) -> ClosedAnswer
     ensures { λ r. ⌜ saidClosed r ≡ closedOf (now (xy .entry)) ⌝ }
 {
