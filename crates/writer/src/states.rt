@@ -56,11 +56,15 @@ pub(crate) fn look_up(code: i32) -> Looked
     let Found::Is(k) = format::kinds::find_kind(code) else {
         return Looked::Unknown;
     };
-    let Content::Taken(l) = format::lengths::lengths_of(k.code) else {
-        return Looked::NotTaken;
-    };
-    let f = l.with;
-    Looked::Taken(k, f)
+    match format::lengths::lengths_of(code) {
+        Content::Taken(l) => {
+            let f = l.with;
+            Looked::Taken(k, f)
+        }
+        Content::NotTaken(_) => Looked::NotTaken,
+        // which a kind that was found is not
+        Content::Unknown(_) => Looked::Unknown,
+    }
 }
 
 // Words at least 50, number at least 1, words for that many records, and of kind 0 only the start.

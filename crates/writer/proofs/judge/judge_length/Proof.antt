@@ -1,5 +1,5 @@
 -- `judge::judge_length` meets its contract: the formula's words decide.
-use mathlib.Core.Path.{_≡_, sym, ap, _∙_}
+use mathlib.Core.Path.{_≡_, ap, _∙_}
 use Prim.Native.Nat.{ℕ, _+_, _^_, _≤_, _<_}
 use native.Mathlib.Omega.{arith}
 use mir.Val.{toZ, ofZ}
@@ -15,7 +15,7 @@ use Rattle.writer.proofs.judge.judge_length.Statement.{statement}
 use Rattle.writer.proofs.judge.judge_length.Tie as tie
 
 held : (c : tie.After-content) → let a = c .before .before .before .before .before .args in (formulaWords (a .f) (a .p) (a .n) < 2 ^ 31) × (c .content .given .0 .0 ≡ wordsOf (formulaWords (a .f) (a .p) (a .n)))
-held c = let a = c .before .before .before .before .before .args in counted-held (a .f) (a .p) (a .n) _ (sym (c .content .given .1) ∙ c .before .before .content-words .ensures)
+held c = let a = c .before .before .before .before .before .args in counted-held (a .f) (a .p) (a .n) _ (c .before .before .content-words .ensures) _ (c .content .given .1)
 
 natural-is : (c : tie.After-natural) → let a = c .before .before .before .before .before .before .before .before .args in c .natural .result ≡ formulaWords (a .f) (a .p) (a .n)
 natural-is c =
@@ -45,7 +45,7 @@ returns-4 : tie.Need-returns-4
 returns-4 c =
     let m = c .before .before in
     let a = m .before .before .before .args in
-    let h : 2 ^ 31 ≤ formulaWords (a .f) (a .p) (a .n) = counted-long (a .f) (a .p) (a .n) (sym (c .enum-told .given .1) ∙ m .content-words .ensures) in
+    let h : 2 ^ 31 ≤ formulaWords (a .f) (a .p) (a .n) = counted-long (a .f) (a .p) (a .n) _ (m .content-words .ensures) (c .enum-told .given .1) in
     long-words (a .f) (a .p) (a .n) (a .words) (omega arith) (omega arith) (omega arith)
 
 returns-5 : tie.Need-returns-5
