@@ -15,7 +15,7 @@ use Rattle.multipart.specs.Body.{noRange, countsIn, xyIn, zIn, mIn}
 use Rattle.record.specs.declared.Point.{Point}
 use Rattle.record.specs.declared.Wanted.{Wanted}
 use Rattle.record.specs.Reading.{Shaped, nullShape, pointShape, partsShape, codeIn, recordOf}
-use Rattle.writer.specs.Boxes.{zero}
+use Rattle.writer.specs.Boxes.{zeroDouble}
 use Rattle.export.specs.declared.records.RecordRead.{RecordRead}
 use Rattle.export.specs.declared.refusals.Refusal.{Refusal}
 use Rattle.export.specs.Refusals.{refusalOf, orElse}
@@ -23,12 +23,12 @@ use Rattle.export.specs.Refusals.{refusalOf, orElse}
 -- ---- the shape as a struct
 
 abbrev pub zeroPoint : Point
-zeroPoint = record { x = zero; y = zero; z = zero; m = zero }
+zeroPoint = record { x = zeroDouble; y = zeroDouble; z = zeroDouble; m = zeroDouble }
 
 abbrev pub zeroBody : Body
 zeroBody =
     record {
-      bbox = record { xmin = zero; ymin = zero; xmax = zero; ymax = zero };
+      bbox = record { xmin = zeroDouble; ymin = zeroDouble; xmax = zeroDouble; ymax = zeroDouble };
       «z_range» = noRange;
       «m_range» = noRange;
       parts = 0;

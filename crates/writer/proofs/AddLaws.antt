@@ -11,6 +11,7 @@ use lib.Seq.{sets}
 use mir.Syntax.{w32}
 use mir.Val.{ofZ}
 use Rattle.format.specs.declared.kinds.Kind.{Kind}
+use Rattle.format.specs.declared.units.Bytes.{Bytes}
 use Rattle.format.specs.declared.units.Words.{Words}
 use Rattle.format.specs.Encoding.{shapeWords, recordBytes, twoBig}
 use Rattle.format.specs.Said.{unlessRefused}
@@ -18,11 +19,12 @@ use Rattle.format.proofs.KindLaws.{code-is, z-has-m}
 use Rattle.writer.specs.declared.State.{State}
 use Rattle.writer.specs.declared.AddAnswer.{AddAnswer}
 use Rattle.writer.specs.declared.AddAnswer.the-variants.{Added, Size, Unknown, NotTaken, Mismatch, Tables, Long, Room}
-use Rattle.writer.specs.Adding.{Lent, lentShape, recordOf, entryOf, heldBox, nextState, saidAdd, Adds}
+use Rattle.writer.specs.Adding.{Lent, lentShape, recordSize, recordOf, entryOf, heldBox, nextState, saidAdd, Adds}
 use Rattle.writer.specs.Boxes.{grown, ownBox}
-use Rattle.writer.specs.Judging.{naturalOf, wordsOf, isRefused, shapeBy, wordsBy, AllPassed, AllRefused, Ready, nextBy}
+use Rattle.writer.specs.Judging.{naturalOf, wordsOf, Whole, isRefused, shapeBy, wordsBy, AllPassed, AllRefused, Ready, nextBy}
+use Rattle.writer.proofs.LengthLaws.{whole-bytes}
 use Rattle.writer.proofs.ShapeLaws.{lent-kind, lent-form, shape-is, words-are}
-use Rattle.writer.proofs.StateLaws.{Fine, fine, number-natural, words-natural}
+use Rattle.writer.proofs.StateLaws.{Fine, fine, number-natural}
 
 -- ---- a refusal leaves all as it was
 
@@ -38,7 +40,7 @@ refused-keeps (Room n) x y e = refl
 
 -- ---- what passed
 
-module _ (s : State) (t : Lent) (out start entry : ℕ) (k : Kind) (w : Words) (size : ℕ) (p : AllPassed s t out start entry k w size) where
+module _ (s : State) (t : Lent) (out start entry : ℕ) (k : Kind) (w after : Words) (size : Bytes) (p : AllPassed s t out start entry k w after size) where
   numbers : Fine s
   numbers = fine s (p .fine)
 
@@ -63,27 +65,24 @@ module _ (s : State) (t : Lent) (out start entry : ℕ) (k : Kind) (w : Words) (
         room = omega (arith, whole);
       }
 
+  pub size-whole : Whole size
+  size-whole = whole-bytes (recordSize t) size (p .shape .size-is)
+
   pub code : t .code ≡ pos (k .code)
   code = code-is (t .code) k (p .shape .of-code .kind-is)
 
   pub content : w ≡ wordsOf (wordsBy k (t .counts))
   content = p .shape .words-are ∙ ap wordsOf words
 
-  content-natural : naturalOf (w .0) ≡ shapeWords (lentShape t)
-  content-natural = ap (λ (v : Words). naturalOf (v .0)) (p .shape .words-are)
-
-  pub next-words : naturalOf (s .words .0) + (4 + naturalOf (w .0)) < 2 ^ 31
-  next-words = rw (words-natural s numbers, content-natural) (p .shape .held)
-
   pub next-number : naturalOf (s .number) + 1 < 2 ^ 31
   next-number = omega (arith, p .shape .held, numbers .room, number-natural s numbers)
 
-  pub next-is : nextBy s w (t .code) k (t .box) (t .xy) (t .zs) (t .ms) ≡ nextState s t
+  pub next-is : nextBy s after (t .code) k (t .box) (t .xy) (t .zs) (t .ms) ≡ nextState s t
   unfolding nextState
   next-is =
       λ i.
       record {
-        words = record { 0 = pos (words-natural s numbers i + (4 + content-natural i)) };
+        words = p .shape .after-is i;
         number = pos (number-natural s numbers i + 1);
         kind = t .code;
         bbox = grown (ownBox (sym (lent-kind t k (p .shape .of-code)) i) (sym (lent-form t k (p .shape .of-code)) i) (t .box) (t .xy) (t .zs) (t .ms)) (heldBox s);

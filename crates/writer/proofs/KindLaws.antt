@@ -6,41 +6,47 @@ use Prim.Native.Nat.{ℕ}
 use native.Mathlib.Omega.{arith}
 use lib.IntN.{ℤ}
 use Rattle.format.specs.declared.kinds.Kind.{Kind}
+use Rattle.format.specs.declared.kinds.Found.{Found}
 use Rattle.format.specs.declared.kinds.Found.the-variants as FoundIs
 use Rattle.format.specs.declared.lengths.Formula.{Formula}
 use Rattle.format.specs.declared.lengths.Lengths.{Lengths}
+use Rattle.format.specs.declared.lengths.Content.{Content}
 use Rattle.format.specs.declared.lengths.Content.the-variants as ContentIs
-use Rattle.format.specs.Kinds.{kindOf, kindAt}
-use Rattle.format.specs.Lengths.{Form, formOf, contentOf, formAt}
+use Rattle.format.specs.Kinds.{kindAt, saidFound, kindOf}
+use Rattle.format.specs.Lengths.{Form, formOf, formAt, saidContent, contentOf}
 use Rattle.format.specs.Shapes.{there}
 use Rattle.format.proofs.KindLaws.{kind-found, none-found}
-use Rattle.format.proofs.LengthLaws.{lengths-form, content-none, content-some}
+use Rattle.format.proofs.LengthLaws.{lengths-form, content-none, content-some, content-known}
 use Rattle.writer.specs.declared.states.Looked.{Looked}
 use Rattle.writer.specs.declared.states.Looked.the-variants as LookedIs
 use Rattle.writer.specs.Judging.{byForm, byKind, lookUp}
 
 -- ---- what the lookups of the table find
 
-module _ (z : ℤ) where
-  pub look-unknown : kindOf z ≡ FoundIs.Unknown → LookedIs.Unknown ≡ lookUp z
+module _ (z : ℤ) (r : Found) (e : saidFound r ≡ kindOf z) where
+  pub look-unknown : (code : ℤ) → r ≡ FoundIs.Unknown code → LookedIs.Unknown ≡ lookUp z
   unfolding lookUp
-  look-unknown e = ap byKind (sym (none-found z e))
+  look-unknown code g = ap byKind (sym (none-found z r e code g))
 
-  module _ (k : Kind) (e : kindOf z ≡ FoundIs.Is k) where
+  module _ (k : Kind) (g : r ≡ FoundIs.Is k) (c : Content) (f : saidContent c ≡ contentOf z) where
     here : kindAt z ≡ some k
-    here = kind-found z k e
+    here = kind-found z r e k g
 
     by-form : (o : Option Form) → formOf k ≡ o → byForm k o ≡ lookUp z
     unfolding lookUp
-    by-form o f = sym (ap byKind here ∙ ap (byForm k) f)
+    by-form o q = sym (ap byKind here ∙ ap (byForm k) q)
 
-    pub look-not : contentOf (k .code) ≡ ContentIs.NotTaken → LookedIs.NotTaken ≡ lookUp z
-    look-not c = by-form none (content-none k z here c)
+    pub look-not : (code : ℤ) → c ≡ ContentIs.NotTaken code → LookedIs.NotTaken ≡ lookUp z
+    look-not code h = by-form none (content-none k z here c f code h)
 
-    pub look-taken : (l : Lengths) → contentOf (k .code) ≡ ContentIs.Taken l → LookedIs.Taken k (l .with) ≡ lookUp z
-    look-taken l c =
-        let f = lengths-form k l (content-some k z here l c) in
-        ap (λ (x : Lengths). LookedIs.Taken k (x .with)) (f .2) ∙ by-form (some (f .0)) (f .1)
+    pub look-taken : (l : Lengths) → c ≡ ContentIs.Taken l → LookedIs.Taken k (l .with) ≡ lookUp z
+    look-taken l h =
+        let q = lengths-form k l (content-some k z here c f l h) in
+        ap (λ (x : Lengths). LookedIs.Taken k (x .with)) (q .2) ∙ by-form (some (q .0)) (q .1)
+
+    -- a kind that was found is not unknown
+    pub look-known : (code : ℤ) → c ≡ ContentIs.Unknown code → ⊥
+    look-known code h = content-known k z here c f code h
 
 -- ---- what a lookup says of the code
 

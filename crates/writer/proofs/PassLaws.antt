@@ -1,7 +1,7 @@
 -- Laws of the judge of a shape: what the answers of its three judges say of the tests in document 01's order.
 use mathlib.Core.Path.{_≡_, refl, sym, ap, _∙_}
 use mathlib.Core.Bool.{Bool, true, false, cond, _&&_}
-use Prim.Native.Nat.{ℕ, _+_, _*_, _-_, _^_, min}
+use Prim.Native.Nat.{ℕ, _+_, _-_, _^_, min}
 use native.Mathlib.Omega.{arith}
 use lib.Dec.{leb, ltb}
 use lib.IntN.{natAbs}
@@ -9,6 +9,7 @@ use lib.ListN.{length}
 use borrow.Author.Tests.{leb-true, ltb-true}
 use Rattle.format.specs.declared.kinds.Kind.{Kind}
 use Rattle.format.specs.declared.lengths.Formula.{Formula}
+use Rattle.format.specs.declared.units.Bytes.{Bytes}
 use Rattle.format.specs.declared.units.Words.{Words}
 use Rattle.format.specs.Encoding.{shapeWords}
 use Rattle.format.specs.Lengths.{formula, formulaWords}
@@ -22,9 +23,10 @@ use Rattle.writer.specs.declared.judge.Judged.the-variants as JudgedIs
 use Rattle.writer.specs.declared.judge.TablesJudged.the-variants.{Agree, Disagree}
 use Rattle.writer.specs.declared.judge.LengthJudged.the-variants.{Held, Long}
 use Rattle.writer.specs.declared.judge.RoomJudged.the-variants.{Fits, Needs}
-use Rattle.writer.specs.Adding.{Lent, lentShape, lentAgree, heldThen, recordSize, shapeTests, addingOf}
-use Rattle.writer.specs.Judging.{naturalOf, wordsOf, OfCode, formBy, pointsBy, agreeBy, tablesJudged, lengthJudged, roomJudged, KindFine, KindRefused, Passed, Refused, JudgesShape, AllRefused, Judges}
+use Rattle.writer.specs.Adding.{Lent, lentShape, lentAgree, wordsThen, heldThen, recordSize, shapeTests, addingOf}
+use Rattle.writer.specs.Judging.{wordsOf, bytesOf, Whole, wordsWith, recordBytesOf, OfCode, formBy, pointsBy, agreeBy, tablesJudged, lengthJudged, roomJudged, KindFine, KindRefused, Passed, Refused, JudgesShape, AllRefused, Judges}
 use Rattle.writer.specs.State.{stateFine}
+use Rattle.writer.proofs.LengthLaws.{record-bytes, whole-bytes}
 use Rattle.writer.proofs.ShapeLaws.{agree-is, shape-is, words-are, counts-held, formula-words}
 use Rattle.writer.proofs.StateLaws.{fine, words-natural}
 
@@ -38,18 +40,18 @@ agree-by : (b : Bool) (m n : ℕ) → cond b (Agree m) Disagree ≡ Agree n → 
 agree-by true m n e = (refl, cc)
 agree-by false m n e = absurd (let z : _≡_ {A = ℕ} 0 1 = cc in omega arith)
 
-long-by : (b : Bool) (w : Words) → cond b (Held w) Long ≡ Long → b ≡ false
-long-by true w e = absurd (let z : _≡_ {A = ℕ} 0 1 = cc in omega arith)
-long-by false w e = refl
+long-by : (b : Bool) (w v : Words) → cond b (Held w v) Long ≡ Long → b ≡ false
+long-by true w v e = absurd (let z : _≡_ {A = ℕ} 0 1 = cc in omega arith)
+long-by false w v e = refl
 
-held-by : (b : Bool) (w v : Words) → cond b (Held w) Long ≡ Held v → (b ≡ true) × (v ≡ w)
-held-by true w v e = (refl, cc)
-held-by false w v e = absurd (let z : _≡_ {A = ℕ} 0 1 = cc in omega arith)
+held-by : (b : Bool) (w v w′ v′ : Words) → cond b (Held w v) Long ≡ Held w′ v′ → (b ≡ true) × (w′ ≡ w) × (v′ ≡ v)
+held-by true w v w′ v′ e = (refl, cc, cc)
+held-by false w v w′ v′ e = absurd (let z : _≡_ {A = ℕ} 0 1 = cc in omega arith)
 
-fits-by : (a b : Bool) (n m x : ℕ) → cond a (cond b (Fits n) (Needs 8)) (Needs m) ≡ Fits x → (a ≡ true) × (b ≡ true)
-fits-by true true n m x e = (refl, refl)
-fits-by true false n m x e = absurd (let z : _≡_ {A = ℕ} 0 1 = cc in omega arith)
-fits-by false b n m x e = absurd (let z : _≡_ {A = ℕ} 0 1 = cc in omega arith)
+fits-by : (a b : Bool) (m : ℕ) → cond a (cond b Fits (Needs 8)) (Needs m) ≡ Fits → (a ≡ true) × (b ≡ true)
+fits-by true true m e = (refl, refl)
+fits-by true false m e = absurd (let z : _≡_ {A = ℕ} 0 1 = cc in omega arith)
+fits-by false b m e = absurd (let z : _≡_ {A = ℕ} 0 1 = cc in omega arith)
 
 -- ---- the tests of a shape
 
@@ -74,65 +76,72 @@ module _ (s : State) (t : Lent) (k : Kind) (o : OfCode (t .code) k) (ok : stateF
         ∙ (sym (formula-words k (t .counts))
         ∙ (λ i. formulaWords (sym fe i) (length (t .counts)) (points i))))
 
-    module _ (w : ℕ) (we : w ≡ naturalOf (s .words .0)) where
-      words-is : natAbs (s .words .0) ≡ w
-      words-is = sym (we ∙ words-natural s (fine s ok))
+    abbrev formula-content : Words
+    formula-content = wordsOf (formulaWords f (length (t .counts)) n)
 
-      test : Bool
-      test = ltb (length (t .counts)) (2 ^ 31) && ltb n (2 ^ 31) && ltb (w + (4 + formulaWords f (length (t .counts)) n)) (2 ^ 31)
+    words-is : wordsThen s t ≡ wordsWith (s .words) formula-content
+    words-is = λ i. sym (words-natural s (fine s ok)) i + (4 + shape-words i)
 
-      held-is : heldThen s t ≡ test
+    test : Bool
+    test = ltb (length (t .counts)) (2 ^ 31) && ltb n (2 ^ 31) && ltb (wordsWith (s .words) formula-content) (2 ^ 31)
+
+    held-is : heldThen s t ≡ test
+    unfolding test
+    held-is = rw (← counts-held k (t .box) (t .counts) (t .xy) (t .zs) (t .ms) yes, points, words-is)
+
+    pub refused-long : lengthJudged (s .words) f (length (t .counts)) n ≡ Long → Refused s t out start entry AddIs.Long
+    unfolding test
+    refused-long l = record { refused = refl; says = rw (agrees, held-is ∙ long-by test _ _ l) }
+
+    module _ (content after : Words) (l : lengthJudged (s .words) f (length (t .counts)) n ≡ Held content after) where
+      held-words : (test ≡ true) × (content ≡ formula-content) × (after ≡ wordsOf (wordsWith (s .words) formula-content))
       unfolding test
-      held-is =
-          rw (← counts-held k (t .box) (t .counts) (t .xy) (t .zs) (t .ms) yes, points, shape-words, words-is)
+      held-words = held-by test formula-content (wordsOf (wordsWith (s .words) formula-content)) content after l
 
-      pub refused-long : lengthJudged w f (length (t .counts)) n ≡ Long → Refused s t out start entry AddIs.Long
-      unfolding test
-      refused-long l = record { refused = refl; says = rw (agrees, held-is ∙ long-by test (wordsOf (formulaWords f (length (t .counts)) n)) l) }
+      held : heldThen s t ≡ true
+      held = held-is ∙ held-words .0
 
-      module _ (content : Words) (l : lengthJudged w f (length (t .counts)) n ≡ Held content) where
-        held-content : (test ≡ true) × (content ≡ wordsOf (formulaWords f (length (t .counts)) n))
-        unfolding test
-        held-content = held-by test (wordsOf (formulaWords f (length (t .counts)) n)) content l
+      content-is : content ≡ wordsOf (shapeWords (lentShape t))
+      content-is = held-words .1 ∙ ap wordsOf (sym shape-words)
 
-        held : heldThen s t ≡ true
-        held = held-is ∙ held-content .0
+      module _ (size : Bytes) (ze : size ≡ recordBytesOf content) where
+        size-is : size ≡ bytesOf (recordSize t)
+        size-is = ze ∙ record-bytes (shapeWords (lentShape t)) content content-is
 
-        content-is : content ≡ wordsOf (shapeWords (lentShape t))
-        content-is = held-content .1 ∙ ap wordsOf (sym shape-words)
+        pub size-whole : Whole size
+        size-whole = whole-bytes (recordSize t) size size-is
 
-        module _ (size : ℕ) (ze : size ≡ 8 + 2 * naturalOf (content .0)) where
-          size-is : size ≡ recordSize t
-          size-is = ze ∙ ap (λ (v : Words). 8 + 2 * naturalOf (v .0)) content-is
+        bytes-are : natAbs (size .0) ≡ recordSize t
+        bytes-are = ap (λ (b : Bytes). natAbs (b .0)) size-is
 
-          room-by : (a b : Bool) (bytes : ℕ) → leb (start + size) out ≡ a → leb 8 entry ≡ b → cond a (cond b (Fits size) (Needs 8)) (Needs (min (start + size) (2 ^ 64 - 1))) ≡ Needs bytes → Refused s t out start entry (AddIs.Room bytes)
-          room-by true true bytes p q e = absurd (let z : _≡_ {A = ℕ} 0 1 = cc in omega arith)
-          room-by true false bytes p q e =
-              let r : 8 ≡ bytes = cc in
-              record { refused = refl; says = rw (agrees, held, ← size-is, p, q) (ap roomBytes (sym r)) }
-          room-by false b bytes p q e =
-              let r : min (start + size) (2 ^ 64 - 1) ≡ bytes = cc in
-              record { refused = refl; says = rw (agrees, held, ← size-is, p) (ap roomBytes (sym r)) }
+        room-by : (a b : Bool) (bytes : ℕ) → leb (start + recordSize t) out ≡ a → leb 8 entry ≡ b → cond a (cond b Fits (Needs 8)) (Needs (min (start + recordSize t) (2 ^ 64 - 1))) ≡ Needs bytes → Refused s t out start entry (AddIs.Room bytes)
+        room-by true true bytes p q e = absurd (let z : _≡_ {A = ℕ} 0 1 = cc in omega arith)
+        room-by true false bytes p q e =
+            let r : 8 ≡ bytes = cc in
+            record { refused = refl; says = rw (agrees, held, p, q) (ap roomBytes (sym r)) }
+        room-by false b bytes p q e =
+            let r : min (start + recordSize t) (2 ^ 64 - 1) ≡ bytes = cc in
+            record { refused = refl; says = rw (agrees, held, p) (ap roomBytes (sym r)) }
 
-          pub refused-room : (bytes : ℕ) → roomJudged size out start entry ≡ Needs bytes → Refused s t out start entry (AddIs.Room bytes)
-          refused-room bytes e = room-by _ _ bytes refl refl e
+        pub refused-room : (bytes : ℕ) → roomJudged (natAbs (size .0)) out start entry ≡ Needs bytes → Refused s t out start entry (AddIs.Room bytes)
+        refused-room bytes e = room-by _ _ bytes refl refl (ap (λ (z : ℕ). roomJudged z out start entry) (sym bytes-are) ∙ e)
 
-          pub passed : (x : ℕ) → roomJudged size out start entry ≡ Fits x → Passed s t out start entry k content size
-          passed x e =
-              let r = fits-by _ _ _ _ _ e in
-              let p : leb (start + recordSize t) out ≡ true = ap (λ (z : ℕ). leb (start + z) out) (sym size-is) ∙ r .0 in
-              let g = both-true _ _ held in
-              record {
-                of-code = o;
-                agrees = yes;
-                counts-held = g .0;
-                held = ltb-true _ _ (g .1);
-                words-are = content-is;
-                size-is = size-is;
-                room = leb-true _ _ p;
-                entry-room = leb-true _ _ (r .1);
-                passes = rw (agrees, held, p, r .1);
-              }
+        pub passed : roomJudged (natAbs (size .0)) out start entry ≡ Fits → Passed s t out start entry k content after size
+        passed e =
+            let r = fits-by _ _ _ (ap (λ (z : ℕ). roomJudged z out start entry) (sym bytes-are) ∙ e) in
+            let g = both-true _ _ held in
+            record {
+              of-code = o;
+              agrees = yes;
+              counts-held = g .0;
+              held = ltb-true _ _ (g .1);
+              words-are = content-is;
+              after-is = held-words .2 ∙ ap wordsOf (sym words-is);
+              size-is = size-is;
+              room = leb-true _ _ (r .0);
+              entry-room = leb-true _ _ (r .1);
+              passes = rw (agrees, held, r .0, r .1);
+            }
 
 -- ---- all tests, by the kind's and the shape's
 
@@ -143,11 +152,11 @@ module _ (s : State) (t : Lent) (out start entry : ℕ) where
 
   pub judged : (k : Kind) (f : Formula) → KindFine s (t .code) k f → (r : Judged) → JudgesShape s t out start entry r → Judges s t out start entry r
   unfolding addingOf
-  judged k f h (JudgedIs.Fine k′ w size) j =
+  judged k f h (JudgedIs.Fine k′ w after size) j =
       record {
         fine = h .fine;
         shape = j;
-        says = ap gives (j .size-is) ∙ sym (h .passes (shapeTests s t out start entry) (gives (recordSize t)) ∙ j .passes);
+        says = ap (λ (b : Bytes). gives (natAbs (b .0))) (j .size-is) ∙ sym (h .passes (shapeTests s t out start entry) (gives (recordSize t)) ∙ j .passes);
       }
   judged k f h (JudgedIs.Refused a) j =
       record { refused = j .refused; says = j .says ∙ sym (h .passes (shapeTests s t out start entry) (gives (recordSize t))) }

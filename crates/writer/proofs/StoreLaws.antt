@@ -5,13 +5,17 @@ use Prim.Native.Nat.{ℕ, zero, suc, _+_, _*_, _-_}
 use native.Mathlib.Nat.{le-of-eq}
 use native.Mathlib.Omega.{arith}
 use lib.Ieee.{Float}
+use lib.IntN.{ℤ}
 use lib.ListN.{length, take, drop, set, length-drop}
 use lib.Seq.{sets, take-all, drop-length}
+use mir.Syntax.{w32}
+use mir.Val.{SFits, toZ, ofZ}
+use mir.ValLaws.{toZ-ofZ}
 use borrow.Rule.Slice.PartMut.{midOf, putMid}
 use Rattle.format.specs.Encoding.{twoBig}
-use Rattle.format.specs.Numbers.{little, f64sLe}
+use Rattle.format.specs.Numbers.{i32Be, little, f64sLe}
 use Rattle.format.proofs.LayoutLaws.{onto}
-use Rattle.format.proofs.NumberLaws.{length-little, length-two, length-f64sLe}
+use Rattle.format.proofs.NumberLaws.{length-little, length-two, length-f64sLe, two-stored}
 
 -- ---- a tail
 
@@ -47,6 +51,10 @@ tail-stored a xs ys vs h =
     ∙ sets-tail a xs vs)
 
 -- ---- fields in turn
+
+-- two numbers, the high byte first, as they come out of the locals that held them
+pub two-put : (out l m : List ℕ) (a b : ℤ) → SFits w32 a → SFits w32 b → l ≡ sets out 0 (i32Be (toZ w32 (ofZ w32 a))) → m ≡ sets l 4 (i32Be (toZ w32 (ofZ w32 b))) → m ≡ sets out 0 (twoBig (ofZ w32 a) (ofZ w32 b))
+two-put out l m a b f g p q = two-stored out l m a b (rw (toZ-ofZ w32 a f) at p) (rw (toZ-ofZ w32 b g) at q)
 
 pub point-stored : (out l m r : List ℕ) (xy zs ms : List Float) → length xy ≡ 2 → l ≡ sets out 0 (f64sLe xy) → m ≡ sets l 16 (f64sLe zs) → r ≡ sets m (16 + 8 * length zs) (f64sLe ms) → r ≡ sets out 0 (f64sLe xy ++ (f64sLe zs ++ f64sLe ms))
 point-stored out l m r xy zs ms h e f g =

@@ -15,8 +15,8 @@ least a b = cond (lt a b) a b
 abbrev pub greatest : Float → Float → Float
 greatest a b = cond (lt b a) a b
 
-abbrev pub zero : Float
-zero = ofInt binary64 (pos 0)
+abbrev pub zeroDouble : Float
+zeroDouble = ofInt binary64 (pos 0)
 
 -- the largest finite double, and the smallest
 abbrev pub largest : Float
@@ -26,7 +26,7 @@ abbrev pub smallest : Float
 smallest = ofBits binary64 0xffef_ffff_ffff_ffff
 
 abbrev pub zeroBox : BBoxZ
-zeroBox = record { xmin = zero; ymin = zero; xmax = zero; ymax = zero; zmin = zero; zmax = zero; mmin = zero; mmax = zero }
+zeroBox = record { xmin = zeroDouble; ymin = zeroDouble; xmax = zeroDouble; ymax = zeroDouble; zmin = zeroDouble; zmax = zeroDouble; mmin = zeroDouble; mmax = zeroDouble }
 
 -- what the first record finds: each min the largest finite double and each max the smallest
 abbrev pub startBox : BBoxZ
@@ -64,24 +64,24 @@ flat k b =
       ymin = b .ymin;
       xmax = b .xmax;
       ymax = b .ymax;
-      zmin = cond (k .z) (b .zmin) zero;
-      zmax = cond (k .z) (b .zmax) zero;
-      mmin = cond (k .m) (b .mmin) zero;
-      mmax = cond (k .m) (b .mmax) zero;
+      zmin = cond (k .z) (b .zmin) zeroDouble;
+      zmax = cond (k .z) (b .zmax) zeroDouble;
+      mmin = cond (k .m) (b .mmin) zeroDouble;
+      mmax = cond (k .m) (b .mmax) zeroDouble;
     }
 
 -- a point's own values as a box
 abbrev pub pointBox : List Float → List Float → List Float → BBoxZ
 pointBox xy zs ms =
     record {
-      xmin = getD xy 0 zero;
-      ymin = getD xy 1 zero;
-      xmax = getD xy 0 zero;
-      ymax = getD xy 1 zero;
-      zmin = getD zs 0 zero;
-      zmax = getD zs 0 zero;
-      mmin = getD ms 0 zero;
-      mmax = getD ms 0 zero;
+      xmin = getD xy 0 zeroDouble;
+      ymin = getD xy 1 zeroDouble;
+      xmax = getD xy 0 zeroDouble;
+      ymax = getD xy 1 zeroDouble;
+      zmin = getD zs 0 zeroDouble;
+      zmax = getD zs 0 zeroDouble;
+      mmin = getD ms 0 zeroDouble;
+      mmax = getD ms 0 zeroDouble;
     }
 
 -- points give their own values, parts kinds the given box and ranges
@@ -102,8 +102,8 @@ settled b =
       ymin = b .ymin;
       xmax = b .xmax;
       ymax = b .ymax;
-      zmin = cond (untouched (b .zmin) (b .zmax)) zero (b .zmin);
-      zmax = cond (untouched (b .zmin) (b .zmax)) zero (b .zmax);
-      mmin = cond (untouched (b .mmin) (b .mmax)) zero (b .mmin);
-      mmax = cond (untouched (b .mmin) (b .mmax)) zero (b .mmax);
+      zmin = cond (untouched (b .zmin) (b .zmax)) zeroDouble (b .zmin);
+      zmax = cond (untouched (b .zmin) (b .zmax)) zeroDouble (b .zmax);
+      mmin = cond (untouched (b .mmin) (b .mmax)) zeroDouble (b .mmin);
+      mmax = cond (untouched (b .mmin) (b .mmax)) zeroDouble (b .mmax);
     }

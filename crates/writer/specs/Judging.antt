@@ -6,17 +6,21 @@ use mathlib.Core.Option.{Option, none, some}
 use Prim.Native.Nat.{ℕ, _+_, _*_, _-_, _^_, _≤_, _<_, min}
 use lib.Dec.{leb, ltb, eqb}
 use lib.Ieee.{Float}
-use lib.IntN.{ℤ, pos, negsuc}
+use lib.IntN.{ℤ, pos, negsuc, natAbs, _+ℤ_}
 use lib.ListN.{length}
 use Rattle.format.specs.declared.kinds.Kind.{Kind}
 use Rattle.format.specs.declared.lengths.Formula.{Formula}
+use Rattle.format.specs.declared.lengths.Counted.{Counted}
+use Rattle.format.specs.declared.lengths.Counted.the-variants as CountedIs
 use Rattle.format.specs.declared.units.Words.{Words}
+use Rattle.format.specs.declared.units.Bytes.{Bytes}
 use Rattle.format.specs.Kinds.{kindAt}
 use Rattle.format.specs.Encoding.{shapeWords}
 use Rattle.format.specs.Lengths.{Form, onePoint, parts, formOf, formula, contentWords, formAt, formulaWords}
 use Rattle.format.specs.Order.{first}
 use Rattle.format.specs.Said.{Said, gives}
 use Rattle.format.specs.Shapes.{Shape, parted, sum}
+use Rattle.format.specs.Units.{inBytes}
 use Rattle.header.specs.declared.bbox.BBoxZ.{BBoxZ}
 use Rattle.layouts.specs.Answers.{countsHeld}
 use Rattle.layouts.specs.Tables.{partsOf}
@@ -48,6 +52,24 @@ naturalOf (negsuc n) = 0
 
 abbrev pub wordsOf : ℕ → Words
 wordsOf n = record { 0 = pos n }
+
+abbrev pub bytesOf : ℕ → Bytes
+bytesOf n = record { 0 = pos n }
+
+-- a length in bytes that is not negative
+abbrev pub Whole : Bytes → Type 0
+Whole size = size .0 ≡ pos (natAbs (size .0))
+
+-- the file's words with a record, whose header takes 4
+abbrev pub wordsWith : Words → Words → ℕ
+wordsWith words content = naturalOf (words .0) + (4 + naturalOf (content .0))
+
+abbrev pub wordsAfter : Words → Words → Counted
+wordsAfter words content = cond (ltb (wordsWith words content) (2 ^ 31)) (CountedIs.Is (wordsOf (wordsWith words content))) CountedIs.Long
+
+-- a record's bytes: the header's 8 and the content's
+abbrev pub recordBytesOf : Words → Bytes
+recordBytesOf content = record { 0 = pos 8 +ℤ inBytes content .0 }
 
 -- the kind with a code, and its formula with m
 abbrev pub byForm : Kind → Option Form → Looked
@@ -125,20 +147,22 @@ JudgesKind s code (KindIs.Refused a) = KindRefused s code a
 abbrev pub tablesJudged : Kind → List ℕ → List Float → List Float → List Float → TablesJudged
 tablesJudged k counts xy zs ms = cond (agreeBy k counts xy zs ms) (Agree (pointsBy k counts)) Disagree
 
-abbrev pub lengthJudged : ℕ → Formula → ℕ → ℕ → LengthJudged
+abbrev pub lengthJudged : Words → Formula → ℕ → ℕ → LengthJudged
 lengthJudged words f p n =
-    cond (ltb p (2 ^ 31) && ltb n (2 ^ 31) && ltb (words + (4 + formulaWords f p n)) (2 ^ 31)) (Held (wordsOf (formulaWords f p n))) Long
+    let content = wordsOf (formulaWords f p n) in
+    cond (ltb p (2 ^ 31) && ltb n (2 ^ 31) && ltb (wordsWith words content) (2 ^ 31)) (Held content (wordsOf (wordsWith words content))) Long
 
 abbrev pub roomJudged : ℕ → ℕ → ℕ → ℕ → RoomJudged
-roomJudged size out start entry = cond (leb (start + size) out) (cond (leb 8 entry) (Fits size) (Needs 8)) (Needs (min (start + size) (2 ^ 64 - 1)))
+roomJudged size out start entry = cond (leb (start + size) out) (cond (leb 8 entry) Fits (Needs 8)) (Needs (min (start + size) (2 ^ 64 - 1)))
 
-pub record Passed (s : State) (t : Lent) (out start entry : ℕ) (k : Kind) (w : Words) (size : ℕ) : Type 0 where
+pub record Passed (s : State) (t : Lent) (out start entry : ℕ) (k : Kind) (w after : Words) (size : Bytes) : Type 0 where
   pub of-code : OfCode (t .code) k
   pub agrees : agreeBy k (t .counts) (t .xy) (t .zs) (t .ms) ≡ true
   pub counts-held : countsHeld (t .counts) ≡ true
   pub held : wordsThen s t < 2 ^ 31
   pub words-are : w ≡ wordsOf (shapeWords (lentShape t))
-  pub size-is : size ≡ recordSize t
+  pub after-is : after ≡ wordsOf (wordsThen s t)
+  pub size-is : size ≡ bytesOf (recordSize t)
   pub room : start + recordSize t ≤ out
   pub entry-room : 8 ≤ entry
   pub passes : first (shapeTests s t out start entry) (gives (recordSize t)) ≡ gives (recordSize t)
@@ -148,20 +172,20 @@ pub record Refused (s : State) (t : Lent) (out start entry : ℕ) (a : AddAnswer
   pub says : saidAdd a ≡ first (shapeTests s t out start entry) (gives (recordSize t))
 
 abbrev pub JudgesShape : State → Lent → ℕ → ℕ → ℕ → Judged → Type 0
-JudgesShape s t out start entry (JudgedIs.Fine k w size) = Passed s t out start entry k w size
+JudgesShape s t out start entry (JudgedIs.Fine k w after size) = Passed s t out start entry k w after size
 JudgesShape s t out start entry (JudgedIs.Refused a) = Refused s t out start entry a
 
-pub record AllPassed (s : State) (t : Lent) (out start entry : ℕ) (k : Kind) (w : Words) (size : ℕ) : Type 0 where
+pub record AllPassed (s : State) (t : Lent) (out start entry : ℕ) (k : Kind) (w after : Words) (size : Bytes) : Type 0 where
   pub fine : stateFine s ≡ true
-  pub shape : Passed s t out start entry k w size
-  pub says : gives size ≡ addingOf s t out start entry
+  pub shape : Passed s t out start entry k w after size
+  pub says : gives (natAbs (size .0)) ≡ addingOf s t out start entry
 
 pub record AllRefused (s : State) (t : Lent) (out start entry : ℕ) (a : AddAnswer) : Type 0 where
   pub refused : isRefused a ≡ true
   pub says : saidAdd a ≡ addingOf s t out start entry
 
 abbrev pub Judges : State → Lent → ℕ → ℕ → ℕ → Judged → Type 0
-Judges s t out start entry (JudgedIs.Fine k w size) = AllPassed s t out start entry k w size
+Judges s t out start entry (JudgedIs.Fine k w after size) = AllPassed s t out start entry k w after size
 Judges s t out start entry (JudgedIs.Refused a) = AllRefused s t out start entry a
 
 -- ---- the writing, and the next state
@@ -174,9 +198,9 @@ pub record Ready (k : Kind) (counts : List ℕ) (xy zs ms : List Float) (bytes :
   pub room : 2 * wordsBy k counts ≤ 4 + bytes
 
 abbrev pub nextBy : State → Words → ℤ → Kind → BBoxZ → List Float → List Float → List Float → State
-nextBy s w code k b xy zs ms =
+nextBy s after code k b xy zs ms =
     record {
-      words = wordsOf (naturalOf (s .words .0) + (4 + naturalOf (w .0)));
+      words = after;
       number = pos (naturalOf (s .number) + 1);
       kind = code;
       bbox = grown (ownBox k (formBy k) b xy zs ms) (heldBox s);

@@ -2,7 +2,7 @@
 ghost use mathlib.Core.Path.{_≡_};
 ghost use mathlib.Core.Bool.{cond};
 ghost use lib.ListN.{getD};
-ghost use Rattle.writer.specs.Boxes.{least, greatest, grown, startBox, zero, flat, pointBox, untouched, settled};
+ghost use Rattle.writer.specs.Boxes.{least, greatest, grown, startBox, zeroDouble, flat, pointBox, untouched, settled};
 use format::kinds::Kind;
 use header::bbox::BBoxZ;
 
@@ -55,7 +55,7 @@ pub(crate) fn start_box() -> BBoxZ
 
 // The value where the flag is set, else 0.
 fn where_set(flag: bool, x: f64) -> f64
-    ensures { λ r. ⌜ r ≡ cond flag x zero ⌝ }
+    ensures { λ r. ⌜ r ≡ cond flag x zeroDouble ⌝ }
 {
     if flag { x } else { 0.0 }
 }
@@ -77,7 +77,7 @@ pub(crate) fn flat_box(k: Kind, b: BBoxZ) -> BBoxZ
 }
 
 fn at_or_zero(s: &[f64], i: usize) -> f64
-    ensures { λ r. ⌜ r ≡ getD (now (s .entry)) i zero ⌝ }
+    ensures { λ r. ⌜ r ≡ getD (now (s .entry)) i zeroDouble ⌝ }
 {
     if i < s.len() { s[i] } else { 0.0 }
 }

@@ -2,20 +2,21 @@
 ghost use mathlib.Core.Path.{_≡_};
 ghost use mathlib.Core.Bool.{true, cond};
 ghost use Prim.Native.Nat.{_+_, _-_, _^_, _<_, min};
+ghost use lib.IntN.{natAbs};
 ghost use Rattle.format.specs.Lengths.{formula};
 ghost use Rattle.format.specs.Shapes.{sum};
 ghost use Rattle.header.specs.declared.bbox.BBoxZ.{BBoxZ};
 ghost use Rattle.writer.specs.Adding.{lent};
-ghost use Rattle.writer.specs.Judging.{formBy, OfCode, JudgesKind, pointsWithin, tablesJudged, lengthJudged, roomJudged, JudgesShape, Judges};
+ghost use Rattle.writer.specs.Judging.{formBy, OfCode, JudgesKind, pointsWithin, tablesJudged, lengthJudged, recordBytesOf, Whole, roomJudged, JudgesShape, Judges};
 ghost use Rattle.writer.specs.State.{stateFine};
 use crate::AddAnswer;
 use crate::State;
 use crate::states::Looked;
-use crate::states::natural;
 use crate::states::words_after;
 use format::kinds::Kind;
 use format::lengths::Counted;
 use format::lengths::Formula;
+use format::units::Bytes;
 use format::units::Words;
 
 pub enum KindJudged {
@@ -29,21 +30,21 @@ pub enum TablesJudged {
     Disagree,
 }
 
-// The content's words.
+// The content's words, and the file's with the record.
 pub enum LengthJudged {
-    Held(Words),
+    Held(Words, Words),
     Long,
 }
 
-// The bytes of the record, or the bytes that a buffer has to have.
+// Whether both buffers have room; or the bytes that one of them has to have.
 pub enum RoomJudged {
-    Fits(usize),
+    Fits,
     Needs(usize),
 }
 
-// The kind, the content's words and the record's bytes.
+// The kind, the content's words, the file's words with the record, and the record's bytes.
 pub enum Judged {
-    Fine(Kind, Words, usize),
+    Fine(Kind, Words, Words, Bytes),
     Refused(AddAnswer),
 }
 
@@ -125,8 +126,7 @@ fn judge_tables(k: Kind, counts: &[u32], xy: &[f64], zs: &[f64], ms: &[f64]) -> 
 }
 
 // An i32 holds the counts, and the file's words with the record: 7.
-fn judge_length(words: u64, f: Formula, p: usize, n: usize) -> LengthJudged
-    requires { ⌜ words < 2 ^ 31 ⌝ }
+fn judge_length(words: Words, f: Formula, p: usize, n: usize) -> LengthJudged
     ensures { λ r. ⌜ r ≡ lengthJudged words f p n ⌝ }
 {
     if 0x7fff_ffff < p {
@@ -137,41 +137,57 @@ fn judge_length(words: u64, f: Formula, p: usize, n: usize) -> LengthJudged
     }
     match format::lengths::content_words(f, p as u32, n as u32) {
         Counted::Long => LengthJudged::Long,
-        Counted::Is(content) => {
-            if 0x7fff_ffff < words_after(words, natural(content.0)) {
-                return LengthJudged::Long;
-            }
-            LengthJudged::Held(content)
-        }
+        Counted::Is(content) => match words_after(words, content) {
+            Counted::Long => LengthJudged::Long,
+            Counted::Is(after) => LengthJudged::Held(content, after),
+        },
     }
 }
 
-// The sum, or the largest usize where it is more.
-fn saturated(start: usize, size: usize) -> usize
-    ensures { λ r. ⌜ r ≡ min (start + size) (2 ^ 64 - 1) ⌝ }
+// A record's bytes: its header takes 8.
+fn record_bytes(content: Words) -> Bytes
+    ensures { λ r. ⌜ r ≡ recordBytesOf content ⌝ }
 {
-    if 0xffff_ffff_ffff_ffff - size < start {
+    let bytes = format::units::to_bytes(content);
+    Bytes(8 + bytes.0)
+}
+
+// A record's bytes as a length of memory: a buffer, and a place in it, may be more than `Bytes` holds.
+pub(crate) fn in_memory(size: Bytes) -> usize
+    requires { ⌜ Whole size ⌝ }
+    ensures { λ r. ⌜ r ≡ natAbs (size .0) ⌝ }
+{
+    size.0 as usize
+}
+
+// What a buffer needs to hold a record from a start on, or the largest usize where it is more.
+fn needed(start: usize, size: Bytes) -> usize
+    requires { ⌜ Whole size ⌝ }
+    ensures { λ r. ⌜ r ≡ min (start + natAbs (size .0)) (2 ^ 64 - 1) ⌝ }
+{
+    let bytes = in_memory(size);
+    if 0xffff_ffff_ffff_ffff - bytes < start {
         0xffff_ffff_ffff_ffff
     } else {
-        start + size
+        start + bytes
     }
 }
 
 // The record's buffer first, then the entry's: 6.
-fn judge_room(size: usize, out: usize, start: usize, entry: usize) -> RoomJudged
-    ensures { λ r. ⌜ r ≡ roomJudged size out start entry ⌝ }
+fn judge_room(size: Bytes, out: usize, start: usize, entry: usize) -> RoomJudged
+    requires { ⌜ Whole size ⌝ }
+    ensures { λ r. ⌜ r ≡ roomJudged (natAbs (size .0)) out start entry ⌝ }
 {
-    let needed = saturated(start, size);
     if out < start {
-        return RoomJudged::Needs(needed);
+        return RoomJudged::Needs(needed(start, size));
     }
-    if out - start < size {
-        return RoomJudged::Needs(needed);
+    if out - start < in_memory(size) {
+        return RoomJudged::Needs(needed(start, size));
     }
     if entry < 8 {
         return RoomJudged::Needs(8);
     }
-    RoomJudged::Fits(size)
+    RoomJudged::Fits
 }
 
 // A shape of a kind that was judged: 10, 7, 6.
@@ -197,14 +213,13 @@ fn judge_shape(
         return Judged::Refused(AddAnswer::Tables);
     };
     let words = state.words;
-    let w = natural(words.0);
-    let LengthJudged::Held(content) = judge_length(w, f, counts.len(), n) else {
+    let LengthJudged::Held(content, after) = judge_length(words, f, counts.len(), n) else {
         return Judged::Refused(AddAnswer::Long);
     };
-    let size = 8 + 2 * (natural(content.0) as usize);
+    let size = record_bytes(content);
     match judge_room(size, out, start, entry) {
         RoomJudged::Needs(bytes) => Judged::Refused(AddAnswer::Room(bytes)),
-        RoomJudged::Fits(_) => Judged::Fine(k, content, size),
+        RoomJudged::Fits => Judged::Fine(k, content, after, size),
     }
 }
 

@@ -14,18 +14,26 @@ ghost use Rattle.writer.specs.Boxes.{ownBox};
 ghost use Rattle.writer.specs.Judging.{naturalOf, formBy, shapeBy, wordsOf, wordsBy, Ready, nextBy};
 use crate::State;
 use crate::states::natural;
-use crate::states::words_after;
 use format::kinds::Kind;
 use format::units::Words;
 use header::bbox::BBoxZ;
 
-// Two numbers at the front, the high byte first: a record's header, or an index entry.
-pub(crate) fn put_two(out: &mut [u8], a: i32, b: i32)
+// A record's header at the front.
+fn put_header(out: &mut [u8], number: i32, content: Words)
     requires { ⌜ 8 ≤ length (now out) ⌝ }
-    ensures { λ _. ⌜ now (out .exit) ≡ sets (now (out .entry)) 0 (twoBig (ofZ w32 a) (ofZ w32 b)) ⌝ }
+    ensures { λ _. ⌜ now (out .exit) ≡ sets (now (out .entry)) 0 (twoBig (ofZ w32 number) (ofZ w32 (content .0))) ⌝ }
 {
-    fields::put_be_i32(out, 0, a);
-    fields::put_be_i32(out, 4, b);
+    fields::put_be_i32(out, 0, number);
+    fields::put_be_i32(out, 4, content.0);
+}
+
+// An index entry at the front: where the record starts, and its content.
+pub(crate) fn put_entry(out: &mut [u8], offset: Words, content: Words)
+    requires { ⌜ 8 ≤ length (now out) ⌝ }
+    ensures { λ _. ⌜ now (out .exit) ≡ sets (now (out .entry)) 0 (twoBig (ofZ w32 (offset .0)) (ofZ w32 (content .0))) ⌝ }
+{
+    fields::put_be_i32(out, 0, offset.0);
+    fields::put_be_i32(out, 4, content.0);
 }
 
 // A point's x, y, and z and m where there are any.
@@ -85,7 +93,7 @@ pub(crate) fn put_record(
     requires { ⌜ content ≡ wordsOf (wordsBy k (now counts)) ⌝ }
     ensures { λ _. ⌜ now (out .exit) ≡ sets (now (out .entry)) 0 (recordBytes k (ofZ w32 number) (shapeBy k bbox (now (counts .entry)) (now (xy .entry)) (now (zs .entry)) (now (ms .entry)))) ⌝ }
 {
-    put_two(out, number, content.0);
+    put_header(out, number, content);
     fields::put_le_i32(out, 8, code);
     put_body(&mut out[12..], k, bbox, counts, xy, zs, ms);
 }
@@ -110,10 +118,10 @@ fn held_box(state: State) -> BBoxZ
     state.bbox
 }
 
-// The state after the record.
+// The state after the record, with which the file has so many words.
 pub(crate) fn next_state(
     state: State,
-    content: Words,
+    after: Words,
     code: i32,
     k: Kind,
     bbox: BBoxZ,
@@ -121,18 +129,15 @@ pub(crate) fn next_state(
     zs: &[f64],
     ms: &[f64],
 ) -> State
-    requires { ⌜ naturalOf (state .words .0) + (4 + naturalOf (content .0)) < 2 ^ 31 ⌝ }
     requires { ⌜ naturalOf (state .number) + 1 < 2 ^ 31 ⌝ }
-    ensures { λ r. ⌜ r ≡ nextBy state content code k bbox (now (xy .entry)) (now (zs .entry)) (now (ms .entry)) ⌝ }
+    ensures { λ r. ⌜ r ≡ nextBy state after code k bbox (now (xy .entry)) (now (zs .entry)) (now (ms .entry)) ⌝ }
 {
     let own = own_box(k, bbox, xy, zs, ms);
     let held = held_box(state);
     let grown = crate::boxes::grow(own, held);
-    let before = state.words;
-    let words = words_after(natural(before.0), natural(content.0));
     let number = natural(state.number) + 1;
     State {
-        words: Words(words as i32),
+        words: after,
         number: number as i32,
         kind: code,
         bbox: grown,

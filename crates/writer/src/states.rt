@@ -1,12 +1,13 @@
 // The writer's state: the one to start from, and which values are writer states.
 ghost use mathlib.Core.Path.{_≡_};
 ghost use Prim.Native.Nat.{_+_, _*_, _-_, _^_, _≤_, _<_};
-ghost use Rattle.writer.specs.Judging.{naturalOf, lookUp, countsFine, wordsOf};
+ghost use Rattle.writer.specs.Judging.{naturalOf, lookUp, countsFine, wordsOf, wordsAfter};
 ghost use Rattle.writer.specs.State.{fresh, stateFine};
 use crate::State;
 use format::kinds::Found;
 use format::kinds::Kind;
 use format::lengths::Content;
+use format::lengths::Counted;
 use format::lengths::Formula;
 use format::units::Words;
 use header::bbox::BBoxZ;
@@ -49,6 +50,13 @@ pub(crate) fn natural(z: i32) -> u64
     if z < 0 { 0 } else { z as u64 }
 }
 
+// How many words a length is, or 0 for one below: but for the fields that are written, lengths are taken apart here alone.
+fn count(words: Words) -> u64
+    ensures { λ r. ⌜ (r ≡ naturalOf (words .0)) × (r < 2 ^ 31) ⌝ }
+{
+    natural(words.0)
+}
+
 // The kind of a code in the two tables of the format.
 pub(crate) fn look_up(code: i32) -> Looked
     ensures { λ r. ⌜ r ≡ lookUp code ⌝ }
@@ -56,29 +64,34 @@ pub(crate) fn look_up(code: i32) -> Looked
     let Found::Is(k) = format::kinds::find_kind(code) else {
         return Looked::Unknown;
     };
-    let Content::Taken(l) = format::lengths::lengths_of(k.code) else {
-        return Looked::NotTaken;
-    };
-    let f = l.with;
-    Looked::Taken(k, f)
+    match format::lengths::lengths_of(code) {
+        Content::Taken(l) => {
+            let f = l.with;
+            Looked::Taken(k, f)
+        }
+        Content::NotTaken(_) => Looked::NotTaken,
+        // which a kind that was found is not
+        Content::Unknown(_) => Looked::Unknown,
+    }
 }
 
 // Words at least 50, number at least 1, words for that many records, and of kind 0 only the start.
-fn counts_fine(words: u64, number: u64, first: bool) -> bool
-    requires { ⌜ number < 2 ^ 31 ⌝ }
-    ensures { λ r. ⌜ r ≡ countsFine words number first ⌝ }
+fn counts_fine(words: Words, number: i32, first: bool) -> bool
+    ensures { λ r. ⌜ r ≡ countsFine (naturalOf (words .0)) (naturalOf number) first ⌝ }
 {
-    if words < 50 {
+    let w = count(words);
+    let n = natural(number);
+    if w < 50 {
         return false;
     }
-    if number < 1 {
+    if n < 1 {
         return false;
     }
-    if words < 50 + 6 * (number - 1) {
+    if w < 50 + 6 * (n - 1) {
         return false;
     }
     if first {
-        if words == 50 { number == 1 } else { false }
+        if w == 50 { n == 1 } else { false }
     } else {
         true
     }
@@ -90,18 +103,21 @@ pub fn state_fine(s: State) -> bool
 {
     let words = s.words;
     match look_up(s.kind) {
-        Looked::Taken(k, _) => counts_fine(natural(words.0), natural(s.number), k.code == 0),
+        Looked::Taken(k, _) => counts_fine(words, s.number, k.code == 0),
         Looked::NotTaken => false,
         Looked::Unknown => false,
     }
 }
 
-// The file's words after a record: its header takes 4.
-pub(crate) fn words_after(words: u64, content: u64) -> u64
-    requires { ⌜ (words < 2 ^ 31) × (content < 2 ^ 31) ⌝ }
-    ensures { λ r. ⌜ r ≡ words + (4 + content) ⌝ }
+// The file's words with a record, whose header takes 4; long, where an i32 does not hold them.
+pub(crate) fn words_after(words: Words, content: Words) -> Counted
+    ensures { λ r. ⌜ r ≡ wordsAfter words content ⌝ }
 {
-    words + (4 + content)
+    let after = count(words) + (4 + count(content));
+    if 0x7fff_ffff < after {
+        return Counted::Long;
+    }
+    Counted::Is(Words(after as i32))
 }
 
 // The words of the .shx: 50, and 4 for each record before the next number.

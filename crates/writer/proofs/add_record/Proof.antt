@@ -10,10 +10,11 @@ use mir.Val.{SFits, ofZ}
 use mir.ValLaws.{toZ-ofZ}
 use borrow.Rule.Slice.PartMut.{midOf}
 use borrow.Author.Needs.{needs}
-use Rattle.format.specs.Encoding.{recordBytes, twoBig}
+use Rattle.format.specs.Encoding.{recordBytes}
+use Rattle.format.specs.Said.{gives}
 use Rattle.writer.specs.Adding.{Lent, lent}
 use Rattle.writer.specs.Judging.{shapeBy, nextBy, AllPassed, AllRefused, Judges}
-use Rattle.writer.proofs.AddLaws.{adds-refused, starts, whole, ready, code, content, next-words, next-number, next-is, record-of, entry-of}
+use Rattle.writer.proofs.AddLaws.{adds-refused, starts, whole, ready, size-whole, code, content, next-number, next-is, record-of, entry-of}
 use Rattle.writer.proofs.StoreLaws.{tail-length, tail-stored}
 use Rattle.writer.proofs.add_record.Statement.{statement}
 use Rattle.writer.proofs.add_record.Tie as tie
@@ -24,14 +25,8 @@ start-of c = c .before .before .before .before .before .before .before
 abbrev lent-of : tie.Start → Lent
 lent-of c = let a = c .args in lent (a .code) (a .bbox) (a .counts .now) (a .xy .now) (a .zs .now) (a .ms .now)
 
-words-fit : (c : tie.Start) → SFits w32 (c .args .state .words .0)
-words-fit c = search needs
-
 number-fits : (c : tie.Start) → SFits w32 (c .args .state .number)
 number-fits c = search needs
-
-content-fits : (c : tie.After-known-told2) → SFits w32 (c .before .k .given .0 .1 .0 .0)
-content-fits c = search needs
 
 -- what the judge said, of the code as it was passed
 judged : (c : tie.After-judge) → let s = start-of c in let a = s .args in Judges (a .state) (lent-of s) (length (a .out .now)) (a .start) (length (a .entry .now)) (c .judge .result)
@@ -41,7 +36,7 @@ judged c =
     subst (λ (z : ℤ). Judges (a .state) (lent z (a .bbox) (a .counts .now) (a .xy .now) (a .zs .now) (a .ms .now)) (length (a .out .now)) (a .start) (length (a .entry .now)) (c .judge .result))
     (toZ-ofZ w32 _ (s .fits .code)) (c .judge .ensures (a .bbox))
 
-passed : (c : tie.After-k) → let s = start-of (c .before .before) in let a = s .args in AllPassed (a .state) (lent-of s) (length (a .out .now)) (a .start) (length (a .entry .now)) (c .k .given .0 .0) (c .k .given .0 .1 .0) (c .k .given .0 .1 .1 .0)
+passed : (c : tie.After-k) → let s = start-of (c .before .before) in let a = s .args in AllPassed (a .state) (lent-of s) (length (a .out .now)) (a .start) (length (a .entry .now)) (c .k .given .0 .0) (c .k .given .0 .1 .0) (c .k .given .0 .1 .1 .0) (c .k .given .0 .1 .1 .1 .0)
 passed c =
     let s = start-of (c .before .before) in
     let a = s .args in
@@ -54,10 +49,10 @@ refused c =
     subst (Judges (a .state) (lent-of s) (length (a .out .now)) (a .start) (length (a .entry .now))) (c .answer .given .1) (judged (c .before .before))
 
 sub-put-record : tie.Need-sub-put-record
-sub-put-record c = starts _ _ _ _ _ _ _ _ (passed (c .before .before .before))
+sub-put-record c = starts _ _ _ _ _ _ _ _ _ (passed (c .before .before .before))
 
 part-put-record-start : tie.Need-part-put-record-start
-part-put-record-start c = starts _ _ _ _ _ _ _ _ (passed (c .before .before .before))
+part-put-record-start c = starts _ _ _ _ _ _ _ _ _ (passed (c .before .before .before))
 
 put-record-requires : tie.Need-put-record-requires
 put-record-requires c κs =
@@ -65,15 +60,16 @@ put-record-requires c κs =
     let s = start-of (k .before .before) in
     let e = tail-length (s .args .start) (s .args .out .now) in
     let p = passed k in
-    (ready _ _ _ _ _ _ _ _ p _ e, (rw e (whole _ _ _ _ _ _ _ _ p), (toZ-ofZ w32 _ (s .fits .code) ∙ code _ _ _ _ _ _ _ _ p, content _ _ _ _ _ _ _ _ p)))
+    (ready _ _ _ _ _ _ _ _ _ p _ e, (rw e (whole _ _ _ _ _ _ _ _ _ p), (toZ-ofZ w32 _ (s .fits .code) ∙ code _ _ _ _ _ _ _ _ _ p, content _ _ _ _ _ _ _ _ _ p)))
 
-put-two-requires : tie.Need-put-two-requires
-put-two-requires c κs = passed (c .before .before .before .before .before .before .before .before .before .before) .shape .entry-room
+put-entry-requires : tie.Need-put-entry-requires
+put-entry-requires c κs = passed (c .before .before .before .before .before .before .before .before) .shape .entry-room
+
+in-memory-requires : tie.Need-in-memory-requires
+in-memory-requires c κs = size-whole _ _ _ _ _ _ _ _ _ (passed (c .before .before .before .before .before .before .before .before .before .before .before))
 
 next-state-requires : tie.Need-next-state-requires
-next-state-requires c κs =
-    let p = passed (c .before .before .before .before .before .before .before .before .before .before .before .before .before) in
-    (next-words _ _ _ _ _ _ _ _ p, next-number _ _ _ _ _ _ _ _ p)
+next-state-requires c κs = next-number _ _ _ _ _ _ _ _ _ (passed (c .before .before .before .before .before .before .before .before .before .before .before .before))
 
 returns : tie.Need-returns
 returns c =
@@ -82,24 +78,23 @@ returns c =
 
 returns-2 : tie.Need-returns-2
 returns-2 c =
-    let t = c .before .before .before in
-    let q = t .before .before .before .before .before .before in
+    let m = c .before in
+    let t = m .before .before .before in
+    let q = t .before .before .before .before in
     let k = q .before .before .before .before .before in
     let s = start-of (k .before .before) in
     let a = s .args in
     let p = passed k in
     let number = toZ-ofZ w32 _ (number-fits s) in
-    let words = toZ-ofZ w32 _ (words-fit s) in
-    let size = toZ-ofZ w32 _ (content-fits (q .before .before .before .before)) in
     let kind = toZ-ofZ w32 _ (s .fits .code) in
     let shape = shapeBy (k .k .given .0 .0) (a .bbox) (a .counts .now) (a .xy .now) (a .zs .now) (a .ms .now) in
     let tail = midOf (a .start) (length (a .out .now) - a .start) (a .out .now) in
     let stored = q .put-record .ensures ∙ (λ i. sets tail 0 (recordBytes (k .k .given .0 .0) (ofZ w32 (number i)) shape)) in
     record {
-      says = p .says;
-      state-is = c .next-state .ensures ∙ ((λ i. nextBy (a .state) (k .k .given .0 .1 .0) (kind i) (k .k .given .0 .0) (a .bbox) (a .xy .now) (a .zs .now) (a .ms .now)) ∙ next-is _ _ _ _ _ _ _ _ p);
-      out-is = tail-stored (a .start) (a .out .now) (q .put-record .last .0) (recordBytes (k .k .given .0 .0) (ofZ w32 (a .state .number)) shape) stored ∙ ap (λ (l : List ℕ). sets (a .out .now) (a .start) l) (record-of _ _ _ _ _ _ _ _ p);
-      entry-is = t .put-two .ensures ∙ ((λ i. sets (a .entry .now) 0 (twoBig (ofZ w32 (words i)) (ofZ w32 (size i)))) ∙ ap (λ (l : List ℕ). sets (a .entry .now) 0 l) (entry-of _ _ _ _ _ _ _ _ p));
+      says = ap gives (m .in-memory .ensures) ∙ p .says;
+      state-is = c .next-state .ensures ∙ ((λ i. nextBy (a .state) (k .k .given .0 .1 .1 .0) (kind i) (k .k .given .0 .0) (a .bbox) (a .xy .now) (a .zs .now) (a .ms .now)) ∙ next-is _ _ _ _ _ _ _ _ _ p);
+      out-is = tail-stored (a .start) (a .out .now) (q .put-record .last .0) (recordBytes (k .k .given .0 .0) (ofZ w32 (a .state .number)) shape) stored ∙ ap (λ (l : List ℕ). sets (a .out .now) (a .start) l) (record-of _ _ _ _ _ _ _ _ _ p);
+      entry-is = t .put-entry .ensures ∙ ap (λ (l : List ℕ). sets (a .entry .now) 0 l) (entry-of _ _ _ _ _ _ _ _ _ p);
     }
 
 pub add-record-spec : {M : Type 1} → statement M
@@ -111,7 +106,8 @@ add-record-spec =
     part-put-record-start
     (λ c. search needs)
     put-record-requires
-    put-two-requires
+    put-entry-requires
+    in-memory-requires
     next-state-requires
     returns
     (λ c. search needs) (λ c. search needs)

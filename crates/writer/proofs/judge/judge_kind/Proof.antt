@@ -39,7 +39,7 @@ returns-3 c =
     let l = k .before .before in
     let a = l .before .before .before in
     rw (toZ-ofZ w32 _ (a .fits .code), toZ-ofZ w32 _ (kind-fits a))
-    (no-match _ _ (fine-is (l .before)) _ _ (looked l ∙ k .k .given .1) (c .before .before .before .if2 .left) (zero-no (a .args .state .kind) (c .before .if3 .taken)) (bits-differ (a .args .state .kind) (a .args .code) (c .if4 .taken)))
+    (no-match _ _ (fine-is (l .before)) _ _ (looked l ∙ k .k .given .1) (c .before .before .before .if2 .left) (zero-no (a .args .state .kind) (c .before .if3 .taken)) (bits-differ w32 (a .args .state .kind) (a .args .code) (c .if4 .taken)))
 
 returns-4 : tie.Need-returns-4
 returns-4 c =
@@ -57,7 +57,7 @@ returns-6 c =
     let l = k .before .before in
     let a = l .before .before .before in
     kind-fine _ _ (fine-is (l .before)) _ _ (looked l ∙ k .k .given .1) (c .before .before .before .if2 .left)
-    (ap (λ (b : Bool). b || sameInt (a .args .state .kind) (a .args .code)) (zero-no (a .args .state .kind) (c .before .if3 .taken)) ∙ bits-same _ _ (kind-fits a) (a .fits .code) (c .if4 .left))
+    (ap (λ (b : Bool). b || sameInt (a .args .state .kind) (a .args .code)) (zero-no (a .args .state .kind) (c .before .if3 .taken)) ∙ bits-same w32 _ _ (kind-fits a) (a .fits .code) (c .if4 .left))
 
 returns-7 : tie.Need-returns-7
 returns-7 c =

@@ -1,58 +1,44 @@
--- `judge::judge_length` meets its contract: the formula's words decide.
-use mathlib.Core.Path.{_≡_, sym, ap, _∙_}
-use Prim.Native.Nat.{ℕ, _+_, _^_, _≤_, _<_}
+-- `judge::judge_length` meets its contract: the formula's words decide, and the file's with them.
+use mathlib.Core.Path.{_≡_, sym, _∙_}
 use native.Mathlib.Omega.{arith}
-use mir.Val.{toZ, ofZ}
-use mir.ValLaws.{toZ-pos}
-use mir.Syntax.{w32}
 use borrow.Author.Needs.{needs}
-use Rattle.format.specs.declared.units.Words.{Words}
 use Rattle.format.specs.Lengths.{formulaWords}
 use Rattle.format.proofs.LengthLaws.{counted-long, counted-held}
-use Rattle.writer.specs.Judging.{naturalOf, wordsOf}
-use Rattle.writer.proofs.LengthLaws.{long-parts, long-points, long-words, held-words}
+use Rattle.writer.specs.Judging.{wordsOf}
+use Rattle.writer.proofs.LengthLaws.{long-parts, long-points, long-content, long-file, held-file}
 use Rattle.writer.proofs.judge.judge_length.Statement.{statement}
 use Rattle.writer.proofs.judge.judge_length.Tie as tie
 
-held : (c : tie.After-content) → let a = c .before .before .before .before .before .args in (formulaWords (a .f) (a .p) (a .n) < 2 ^ 31) × (c .content .given .0 .0 ≡ wordsOf (formulaWords (a .f) (a .p) (a .n)))
-held c = let a = c .before .before .before .before .before .args in counted-held (a .f) (a .p) (a .n) _ (sym (c .content .given .1) ∙ c .before .before .content-words .ensures)
-
-natural-is : (c : tie.After-natural) → let a = c .before .before .before .before .before .before .before .before .args in c .natural .result ≡ formulaWords (a .f) (a .p) (a .n)
-natural-is c =
-    let h = held (c .before .before .before) in
-    c .natural .ensures .0
-    ∙ (ap (λ (w : Words). naturalOf (toZ w32 (ofZ w32 (w .0)))) (h .1)
-    ∙ ap naturalOf (toZ-pos w32 _ (h .0)))
-
-after-is : (c : tie.After-words-after) → let a = c .before .before .before .before .before .before .before .before .before .args in c .words-after .result ≡ a .words + (4 + formulaWords (a .f) (a .p) (a .n))
-after-is c =
-    let a = c .before .before .before .before .before .before .before .before .before .args in
-    c .words-after .ensures ∙ ap (λ (n : ℕ). a .words + (4 + n)) (natural-is (c .before))
+content-is : (c : tie.After-content) → let a = c .before .before .before .before .before .args in c .content .given .0 .0 ≡ wordsOf (formulaWords (a .f) (a .p) (a .n))
+content-is c =
+    let a = c .before .before .before .before .before .args in
+    counted-held (a .f) (a .p) (a .n) _ (c .before .before .content-words .ensures) _ (c .content .given .1) .1
 
 returns : tie.Need-returns
-returns c = let a = c .before .args in long-parts (a .f) (a .p) (a .n) (a .words) (omega arith)
+returns c = let a = c .before .args in long-parts (a .words) (a .f) (a .p) (a .n) (omega arith)
 
 returns-2 : tie.Need-returns-2
-returns-2 c = let a = c .before .before .args in long-points (a .f) (a .p) (a .n) (a .words) (omega arith) (omega arith)
+returns-2 c = let a = c .before .before .args in long-points (a .words) (a .f) (a .p) (a .n) (omega arith) (omega arith)
 
 returns-3 : tie.Need-returns-3
 returns-3 c =
-    let a = c .before .before .before .before .before .before .before .before .before .before .args in
-    let e : c .before .words-after .result ≡ a .words + (4 + formulaWords (a .f) (a .p) (a .n)) = after-is (c .before) in
-    long-words (a .f) (a .p) (a .n) (a .words) (omega arith) (omega arith) (omega arith)
+    let m = c .before .before in
+    let a = m .before .before .before .args in
+    long-content (a .words) (a .f) (a .p) (a .n) (omega arith) (omega arith) (counted-long (a .f) (a .p) (a .n) _ (m .content-words .ensures) (c .enum-told .given .1))
 
 returns-4 : tie.Need-returns-4
 returns-4 c =
-    let m = c .before .before in
-    let a = m .before .before .before .args in
-    let h : 2 ^ 31 ≤ formulaWords (a .f) (a .p) (a .n) = counted-long (a .f) (a .p) (a .n) (sym (c .enum-told .given .1) ∙ m .content-words .ensures) in
-    long-words (a .f) (a .p) (a .n) (a .words) (omega arith) (omega arith) (omega arith)
+    let v = c .before .before in
+    let k = v .before .before in
+    let a = k .before .before .before .before .before .args in
+    long-file (a .words) (a .f) (a .p) (a .n) (omega arith) (omega arith) _ (content-is k) (sym (v .words-after .ensures) ∙ c .enum-told2 .given .1)
 
 returns-5 : tie.Need-returns-5
 returns-5 c =
-    let a = c .before .before .before .before .before .before .before .before .before .before .args in
-    let e : c .before .words-after .result ≡ a .words + (4 + formulaWords (a .f) (a .p) (a .n)) = after-is (c .before) in
-    held-words (a .f) (a .p) (a .n) (a .words) (omega arith) (omega arith) _ (held (c .before .before .before .before .before) .1) (omega arith)
+    let v = c .before .before .before in
+    let k = v .before .before in
+    let a = k .before .before .before .before .before .args in
+    held-file (a .words) (a .f) (a .p) (a .n) (omega arith) (omega arith) _ (content-is k) _ (sym (v .words-after .ensures) ∙ c .before .after .given .1)
 
 pub judge-length-spec : {M : Type 1} → statement M
 judge-length-spec =
@@ -61,7 +47,7 @@ judge-length-spec =
     returns
     returns-2
     (λ c. search needs) (λ c. search needs) (λ c κs. search needs) (λ c. search needs) (λ c. search needs)
-    (λ c κs. search needs) (λ c κs. search needs)
+    (λ c κs. search needs) (λ c. search needs) (λ c. search needs)
     returns-3
     returns-4
     returns-5)

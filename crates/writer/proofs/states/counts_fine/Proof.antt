@@ -1,31 +1,48 @@
 -- `states::counts_fine` meets its contract: each return by the tests that led there.
+use mathlib.Core.Path.{_≡_, ap, _∙_}
+use mir.Syntax.{w32}
+use mir.ValLaws.{toZ-ofZ}
 use borrow.Author.Tests.{le-leb, lt-leb, eq-eqb, ne-eqb}
 use borrow.Author.Needs.{needs}
+use Rattle.writer.specs.Judging.{naturalOf}
 use Rattle.writer.proofs.states.counts_fine.Statement.{statement}
 use Rattle.writer.proofs.states.counts_fine.Tie as tie
 
+-- the two numbers that are tested
+words-are : (c : tie.After-natural) → c .before .count .result ≡ naturalOf (c .before .before .args .words .0)
+words-are c = c .before .count .ensures .0
+
+number-is : (c : tie.After-natural) → c .natural .result ≡ naturalOf (c .before .before .args .number)
+number-is c = c .natural .ensures .0 ∙ ap naturalOf (toZ-ofZ w32 _ (c .before .before .fits .number))
+
 returns : tie.Need-returns
-returns c = rw (lt-leb 50 _ (c .if1 .taken))
+returns c = let n = c .before in rw (← words-are n, ← number-is n, lt-leb 50 _ (c .if1 .taken))
 
 returns-2 : tie.Need-returns-2
-returns-2 c = rw (le-leb 50 _ (c .before .if1 .left), lt-leb 1 _ (c .if2 .taken))
+returns-2 c = let n = c .before .before in
+    rw (← words-are n, ← number-is n, le-leb 50 _ (c .before .if1 .left), lt-leb 1 _ (c .if2 .taken))
 
 returns-3 : tie.Need-returns-3
-returns-3 c = rw (le-leb 50 _ (c .before .before .if1 .left), le-leb 1 _ (c .before .if2 .left), lt-leb _ _ (c .if3 .taken))
+returns-3 c = let n = c .before .before .before in
+    rw (← words-are n, ← number-is n, le-leb 50 _ (c .before .before .if1 .left), le-leb 1 _ (c .before .if2 .left), lt-leb _ _ (c .if3 .taken))
 
 returns-4 : tie.Need-returns-4
-returns-4 c = rw (le-leb 50 _ (c .before .before .before .before .if1 .left), le-leb 1 _ (c .before .before .before .if2 .left), le-leb _ _ (c .before .before .if3 .left), c .before .if4 .taken, eq-eqb _ 50 (c .if5 .taken))
+returns-4 c = let n = c .before .before .before .before .before in
+    rw (← words-are n, ← number-is n, le-leb 50 _ (c .before .before .before .before .if1 .left), le-leb 1 _ (c .before .before .before .if2 .left), le-leb _ _ (c .before .before .if3 .left), c .before .if4 .taken, eq-eqb _ 50 (c .if5 .taken))
 
 returns-5 : tie.Need-returns-5
-returns-5 c = rw (le-leb 50 _ (c .before .before .before .before .if1 .left), le-leb 1 _ (c .before .before .before .if2 .left), le-leb _ _ (c .before .before .if3 .left), c .before .if4 .taken, ne-eqb _ 50 (c .if5 .left))
+returns-5 c = let n = c .before .before .before .before .before in
+    rw (← words-are n, ← number-is n, le-leb 50 _ (c .before .before .before .before .if1 .left), le-leb 1 _ (c .before .before .before .if2 .left), le-leb _ _ (c .before .before .if3 .left), c .before .if4 .taken, ne-eqb _ 50 (c .if5 .left))
 
 returns-6 : tie.Need-returns-6
-returns-6 c = rw (le-leb 50 _ (c .before .before .before .if1 .left), le-leb 1 _ (c .before .before .if2 .left), le-leb _ _ (c .before .if3 .left), c .if4 .left)
+returns-6 c = let n = c .before .before .before .before in
+    rw (← words-are n, ← number-is n, le-leb 50 _ (c .before .before .before .if1 .left), le-leb 1 _ (c .before .before .if2 .left), le-leb _ _ (c .before .if3 .left), c .if4 .left)
 
 pub counts-fine-spec : {M : Type 1} → statement M
 counts-fine-spec =
     tie.close
     (tie.spec
+    (λ c κs. search needs) (λ c κs. search needs)
     returns
     returns-2
     (λ c. search needs) (λ c. search needs)

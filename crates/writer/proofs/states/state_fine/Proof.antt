@@ -10,9 +10,6 @@ use Rattle.writer.proofs.StateLaws.{fine-taken, fine-no}
 use Rattle.writer.proofs.states.state_fine.Statement.{statement}
 use Rattle.writer.proofs.states.state_fine.Tie as tie
 
-words-fit : (c : tie.Start) → SFits w32 (c .args .s .words .0)
-words-fit c = search needs
-
 number-fits : (c : tie.Start) → SFits w32 (c .args .s .number)
 number-fits c = search needs
 
@@ -23,15 +20,12 @@ looked : (c : tie.After-look-up) → lookUp (c .before .before .before .args .s 
 looked c = ap lookUp (sym (toZ-ofZ w32 _ (kind-fits (c .before .before .before)))) ∙ sym (c .look-up .ensures)
 
 returns : tie.Need-returns
-returns c = let k = c .before .before .before .before .before .before .before in
+returns c = let k = c .before .before .before .before in
     let l = k .before .before in
     let a = l .before .before .before in
-    let w = c .before .before .before .before in
-    let n = c .before .before in
-    let e = w .natural .ensures .0 ∙ ap naturalOf (toZ-ofZ w32 _ (words-fit a)) in
-    let f = n .natural2 .ensures .0 ∙ ap naturalOf (toZ-ofZ w32 _ (number-fits a)) in
+    let n = toZ-ofZ w32 _ (number-fits a) in
     c .counts-fine .ensures
-    ∙ ((λ i. countsFine (e i) (f i) (eqb (k .k .given .0 .0 .code) 0))
+    ∙ ((λ i. countsFine (naturalOf (a .args .s .words .0)) (naturalOf (n i)) (eqb (k .k .given .0 .0 .code) 0))
     ∙ fine-taken (a .args .s) (k .k .given .0 .0) _ (looked l ∙ k .k .given .1))
 
 returns-2 : tie.Need-returns-2
@@ -44,8 +38,7 @@ pub state-fine-spec : {M : Type 1} → statement M
 state-fine-spec =
     tie.close
     (tie.spec
-    (λ c κs. search needs) (λ c. search needs) (λ c κs. search needs) (λ c κs. search needs) (λ c κs. search needs)
-    (λ c. search needs) (λ c. search needs)
+    (λ c κs. search needs) (λ c. search needs) (λ c κs. search needs) (λ c. search needs) (λ c. search needs)
     returns
     returns-2
     returns-3)
