@@ -46,14 +46,14 @@ module _ (words content : Words) where
   held-after h = rw (lt-ltb (wordsWith words content) (2 ^ 31) h)
 
   -- and what it says of them
-  pub after-long : wordsAfter words content ≡ CountedIs.Long → 2 ^ 31 ≤ wordsWith words content
+  after-long : wordsAfter words content ≡ CountedIs.Long → 2 ^ 31 ≤ wordsWith words content
   after-long e = go test refl e
     where
       go : (b : Bool) → test ≡ b → cond b (CountedIs.Is (wordsOf (wordsWith words content))) CountedIs.Long ≡ CountedIs.Long → 2 ^ 31 ≤ wordsWith words content
       go true t q = absurd (let z : _≡_ {A = ℕ} 0 1 = cc in omega arith)
       go false t q = ltb-false _ _ t
 
-  pub after-held : (w : Words) → wordsAfter words content ≡ CountedIs.Is w → (wordsWith words content < 2 ^ 31) × (w ≡ wordsOf (wordsWith words content))
+  after-held : (w : Words) → wordsAfter words content ≡ CountedIs.Is w → (wordsWith words content < 2 ^ 31) × (w ≡ wordsOf (wordsWith words content))
   after-held w e = go test refl e
     where
       go : (b : Bool) → test ≡ b → cond b (CountedIs.Is (wordsOf (wordsWith words content))) CountedIs.Long ≡ CountedIs.Is w → (wordsWith words content < 2 ^ 31) × (w ≡ wordsOf (wordsWith words content))

@@ -105,22 +105,11 @@ pub fn add_record(
     let entries = entry.len();
     match judge::judge(state, code, counts, xy, zs, ms, room, start, entries) {
         Judged::Refused(answer) => Adding { answer, state },
-        Judged::Fine(k, content, after, size) => {
+        Judged::Fine(k, w, after, size) => {
             let n = state.number;
             let words = state.words;
-            record::put_record(
-                &mut out[start..],
-                n,
-                content,
-                code,
-                k,
-                bbox,
-                counts,
-                xy,
-                zs,
-                ms,
-            );
-            record::put_entry(entry, words, content);
+            record::put_record(&mut out[start..], n, w, code, k, bbox, counts, xy, zs, ms);
+            record::put_entry(entry, words, w);
             Adding {
                 answer: AddAnswer::Added(judge::in_memory(size)),
                 state: record::next_state(state, after, code, k, bbox, xy, zs, ms),
