@@ -13,12 +13,14 @@ ROOT = os.path.dirname(os.path.dirname(os.path.dirname(os.path.abspath(__file__)
 # What is wrong, in which file, which text, and what stands in its place.
 VARIANTS = [
     ('closed without y', 'rings/src/lib.rt',
-     '        if xy[1] == xy[n - 1] {\n            return ClosedAnswer::Closed;\n        }\n', '        return ClosedAnswer::Closed;\n'),
+     '        if fields::same(xy[1], xy[n - 1]) {\n            return ClosedAnswer::Closed;\n        }\n', '        return ClosedAnswer::Closed;\n'),
+    ('2^-1074 closes a ring at 0', 'fields/src/lib.rt', '    if rest == 0 {\n', '    if rest <= 1 {\n'),
     ('the turning is not halved', 'rings/src/lib.rt', 'if sum / 2.0 < 0.0', 'if sum < 0.0'),
     ('closing appends x twice', 'rings/src/lib.rt', 'store[run + 1] = y;', 'store[run + 1] = x;'),
     ('an empty part is refused', 'multipart/src/lib.rt', 'if d < 0 {', 'if d <= 0 {'),
     ('a part of 2147483647 points is refused', 'multipart/src/lib.rt', 'if 0x7fff_ffff < d', 'if 0x7fff_fffe < d'),
-    ('the m rule with its arguments exchanged', 'multipart/src/store.rt', 'if -10e38 < x { x } else { -10e38 }', 'if x < -10e38 { -10e38 } else { x }'),
+    ('the m rule with its arguments exchanged', 'multipart/src/store.rt', 'if fields::below(-10e38, x) { x } else { -10e38 }',
+     'if fields::below(x, -10e38) { -10e38 } else { x }'),
     ('a cut pair is Short at the front of its part', 'multipart/src/judge.rt', 'return Walk::Short(at + (s.len() - at) / 8 * 8);', 'return Walk::Short(at);'),
     ('a negative n is 3 at 32', 'multipart/src/lib.rt', 'return CountsAnswer::Size(36);', 'return CountsAnswer::Size(32);'),
     ('a refusal stores a count', 'multipart/src/lib.rt', '        Walk::Size(at) => BodyAnswer::Size(at),\n        Walk::On',
@@ -37,10 +39,10 @@ VARIANTS = [
     ('the starts are ends', 'layouts/src/puts.rt', '        fields::put_le(out, at + 4 * i, start, 4);\n        start += counts[i] as u64;\n',
      '        start += counts[i] as u64;\n        fields::put_le(out, at + 4 * i, start, 4);\n'),
     ('the .shx is one entry too long', 'writer/src/states.rt', '(50 + 4 * (natural(number) - 1)) as i32', '(50 + 4 * natural(number)) as i32'),
-    ('an index entry is 4 words off', 'writer/src/lib.rt', 'record::put_two(entry, words.0, w.0);', 'record::put_two(entry, words.0 + 4, w.0);'),
+    ('an index entry is 4 words off', 'writer/src/lib.rt', 'record::put_entry(entry, words, w);', 'record::put_entry(entry, Words(words.0 + 4), w);'),
     ('an entry that fills its buffer is refused', 'writer/src/judge.rt', 'if entry < 8 {', 'if entry <= 8 {'),
     ('the record number stays', 'writer/src/record.rt', 'let number = natural(state.number) + 1;', 'let number = natural(state.number);'),
-    ('f64_min with its arguments exchanged', 'writer/src/boxes.rt', 'if a < b { a } else { b }', 'if b < a { b } else { a }'),
+    ('f64_min with its arguments exchanged', 'writer/src/boxes.rt', 'if fields::below(a, b) { a } else { b }', 'if fields::below(b, a) { b } else { a }'),
 ]
 
 
