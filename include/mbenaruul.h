@@ -100,7 +100,7 @@ typedef struct { mbenaruul_refusal refusal; size_t bytes; mbenaruul_state state;
 mbenaruul_added mbenaruul_add_record(mbenaruul_state state, int32_t code, mbenaruul_bbox bbox, const uint32_t *counts, size_t counts_n,
                                      const double *xy, size_t xy_n, const double *z, size_t z_n, const double *m, size_t m_n, uint8_t *out, size_t out_n,
                                      size_t start, uint8_t *entry, size_t entry_n);
-/* the same over a state that is lent, and advanced by the call; a refusal leaves it as it is */
+/* the same over a state that is lent, which is not NULL, and advanced by the call; a refusal leaves it as it is */
 typedef struct { mbenaruul_refusal refusal; size_t bytes; } mbenaruul_written;
 mbenaruul_written mbenaruul_write_shape(mbenaruul_state *state, int32_t code, mbenaruul_bbox bbox, const uint32_t *counts, size_t counts_n,
                                         const double *xy, size_t xy_n, const double *z, size_t z_n, const double *m, size_t m_n, uint8_t *out, size_t out_n,
