@@ -16,7 +16,8 @@
  *
  * What each refusal's number means, and its values (docs/DOCUMENT-01.md, "What comes back"):
  *    0  not refused
- *    1  short: the bytes end inside a field         first: the field's offset
+ *    1  short: the bytes end inside a field         first: the field's offset, second: how many of the field's bytes are there, 0 where it would
+ *       begin behind the last byte; first plus second is the length of the slice
  *    2  code: the file code is not 9994             first: the code
  *    3  size                                        first: the offset, or 0
  *    4  unknown: no such kind                       first: the kind's code

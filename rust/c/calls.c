@@ -68,15 +68,16 @@ static void heads(uint8_t *shp, const uint8_t *shx) {
     CHECK(is(h.refusal, 0, 0, 0) && h.header.file_length == 94 && h.header.version == 1000 && h.header.shape_type == 3);
     CHECK(h.header.bbox.xmin == 1 && h.header.bbox.ymin == 2 && h.header.bbox.xmax == 3 && h.header.bbox.ymax == 4 && h.header.bbox.mmax == 0);
     h = mbenaruul_read_header(shp, 27);
-    CHECK(is(h.refusal, 1, 24, 0) && h.header.version == 0 && h.header.bbox.xmax == 0);
+    CHECK(is(h.refusal, 1, 24, 3) && h.header.version == 0 && h.header.bbox.xmax == 0);
     shp[0] = 0xff; /* a code below 0 stands as its 32 bits */
     CHECK(is(mbenaruul_read_header(shp, 100).refusal, 2, 0xff00270a, 0));
     shp[0] = 0;
     CHECK(is(r.refusal, 0, 0, 0) && r.header.record_number == 1 && r.header.content_length == 40);
     r = mbenaruul_read_record_header(shp + 100, 7);
-    CHECK(is(r.refusal, 1, 4, 0) && r.header.record_number == 0);
+    CHECK(is(r.refusal, 1, 4, 3) && r.header.record_number == 0);
     CHECK(is(e.refusal, 0, 0, 0) && e.entry.offset == 50 && e.entry.content_length == 40);
-    CHECK(is(mbenaruul_read_index_entry(shx + 100, 3).refusal, 1, 0, 0));
+    CHECK(is(mbenaruul_read_index_entry(shx + 100, 3).refusal, 1, 0, 3));
+    CHECK(is(mbenaruul_read_index_entry(shx + 100, 4).refusal, 1, 4, 0));
 }
 
 static void records(const uint8_t *content) {
@@ -102,7 +103,8 @@ static void records(const uint8_t *content) {
     r = mbenaruul_read_record(point, 36, 36, c, 2, p, 5, zs, 1, ms, 1);
     CHECK(is(r.refusal, 0, 0, 0) && r.code == 11 && r.form == 1 && r.body.points == 0);
     CHECK(r.point.x == 1.5 && r.point.y == 2.5 && r.point.z == 3.5 && r.point.m == 4.5);
-    CHECK(is(mbenaruul_read_record(point, 35, 36, c, 2, p, 5, zs, 1, ms, 1).refusal, 1, 28, 0));
+    CHECK(is(mbenaruul_read_record(point, 35, 36, c, 2, p, 5, zs, 1, ms, 1).refusal, 1, 28, 7));
+    CHECK(is(mbenaruul_read_record(content, 38, 80, c, 2, p, 5, zs, 1, ms, 1).refusal, 1, 36, 2));
     r = mbenaruul_read_record(null, 4, 4, c, 2, p, 5, zs, 1, ms, 1);
     CHECK(is(r.refusal, 0, 0, 0) && r.code == 0 && r.form == 0);
 }

@@ -60,9 +60,10 @@ fn show_header(s: &[u8]) {
             signed(h.version);
             signed(h.shape_type);
         }
-        HeaderAnswer::Short(at) => {
+        HeaderAnswer::Short(at, present) => {
             say(b" 1");
             number(at as u64);
+            number(present as u64);
         }
         HeaderAnswer::Code(code) => {
             say(b" 2");
@@ -114,6 +115,10 @@ fn headers() {
     show_header(&good);
     say(b"27 bytes:");
     show_front(&good, 27);
+    say(b"26 bytes:");
+    show_front(&good, 26);
+    say(b"24 bytes:");
+    show_front(&good, 24);
     say(b"99 bytes:");
     show_front(&good, 99);
     say(b"3 bytes:");
@@ -245,9 +250,10 @@ fn show_body(s: &[u8], n: usize) {
             small(counts[0]);
             small(counts[1]);
         }
-        BodyAnswer::Short(at) => {
+        BodyAnswer::Short(at, present) => {
             say(b" 1");
             number(at as u64);
+            number(present as u64);
         }
         BodyAnswer::Size(at) => {
             say(b" 3");

@@ -19,7 +19,7 @@ same : {A : Type 0} (a : RecordAnswer) (store : List A) (values : Bool → List 
 same Is.Null store values = refl
 same (Is.Point code p) store values = refl
 same (Is.Parts code m body) store values = refl
-same (Is.Short at) store values = refl
+same (Is.Short at present) store values = refl
 same (Is.Size at) store values = refl
 same (Is.Unknown code) store values = refl
 same (Is.Mismatch wanted found) store values = refl

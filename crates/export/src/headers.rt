@@ -63,7 +63,11 @@ fn header_read(a: HeaderAnswer) -> HeaderRead
             refusal: refusals::none(),
             header,
         },
-        HeaderAnswer::Short(at) => no_header(refusals::with_number(refusals::SHORT, at)),
+        HeaderAnswer::Short(at, present) => no_header(refusals::with_numbers(
+            refusals::SHORT,
+            at,
+            present,
+        )),
         HeaderAnswer::Code(code) => no_header(refusals::with_code(refusals::CODE, code)),
         HeaderAnswer::Size(at) => no_header(refusals::with_number(refusals::SIZE, at)),
         HeaderAnswer::Unknown(code) => no_header(refusals::with_code(refusals::UNKNOWN, code)),
@@ -85,8 +89,8 @@ fn record_header_read(a: RecordHeaderAnswer) -> RecordHeaderRead
             refusal: refusals::none(),
             header,
         },
-        RecordHeaderAnswer::Short(at) => RecordHeaderRead {
-            refusal: refusals::with_number(refusals::SHORT, at),
+        RecordHeaderAnswer::Short(at, present) => RecordHeaderRead {
+            refusal: refusals::with_numbers(refusals::SHORT, at, present),
             header: RecordHeader {
                 record_number: 0,
                 content_length: Words(0),
@@ -110,8 +114,8 @@ fn index_entry_read(a: ShapeIndexAnswer) -> IndexEntryRead
             refusal: refusals::none(),
             entry,
         },
-        ShapeIndexAnswer::Short(at) => IndexEntryRead {
-            refusal: refusals::with_number(refusals::SHORT, at),
+        ShapeIndexAnswer::Short(at, present) => IndexEntryRead {
+            refusal: refusals::with_numbers(refusals::SHORT, at, present),
             entry: ShapeIndex {
                 offset: Words(0),
                 content_length: Words(0),

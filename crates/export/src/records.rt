@@ -93,7 +93,11 @@ fn record_read(a: RecordAnswer) -> RecordRead
             point: no_point(),
             body,
         },
-        RecordAnswer::Short(at) => no_shape(refusals::with_number(refusals::SHORT, at)),
+        RecordAnswer::Short(at, present) => no_shape(refusals::with_numbers(
+            refusals::SHORT,
+            at,
+            present,
+        )),
         RecordAnswer::Size(at) => no_shape(refusals::with_number(refusals::SIZE, at)),
         RecordAnswer::Unknown(code) => no_shape(refusals::with_code(refusals::UNKNOWN, code)),
         RecordAnswer::Mismatch(wanted, found) => no_shape(refusals::with_codes(

@@ -52,6 +52,7 @@ pub(crate) fn with_number(number: u32, value: usize) -> Refusal
     }
 }
 
+// An offset and how many bytes, or how many parts and points.
 pub(crate) fn with_numbers(number: u32, first: usize, second: usize) -> Refusal
     ensures { λ r. ⌜ r ≡ refusal number (pos first ∷ pos second ∷ []) ⌝ }
 {

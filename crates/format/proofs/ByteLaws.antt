@@ -1,14 +1,14 @@
 -- Laws of fields, and of numbers as bytes, over the width: reading undoes writing, and writing undoes reading.
 use mathlib.Core.Path.{_≡_, refl, sym, ap, _∙_}
 use mathlib.Core.List.{List, [], _∷_, _++_, reverse, reverseAux, reverse-reverse, reverse-cons, reverse-append}
-use Prim.Native.Nat.{ℕ, zero, suc, _+_, _*_, _/_, _%_, _^_, _≤_, _<_}
+use Prim.Native.Nat.{ℕ, zero, suc, _+_, _*_, _-_, _/_, _%_, _^_, _≤_, _<_}
 use native.Mathlib.Nat.{mul-suc}
 use native.Mathlib.Numerals.{add-one}
 use native.Mathlib.Omega.{arith}
 use lib.Dec.{lit<}
 use lib.Pow.{pow-add}
 use lib.ListN.{length, getD, take, drop, length-reverse, length-drop, set}
-use lib.Seq.{length-take-le, drop-cons, drop-drop, sets, take-suc, getD-drop}
+use lib.Seq.{length-take-le, take-all, drop-cons, drop-drop, sets, take-suc, getD-drop}
 use Rattle.format.specs.Bytes.{le, be, leBytes, beBytes, field}
 use Rattle.format.proofs.LayoutLaws.{sets-snoc}
 
@@ -150,6 +150,13 @@ unfolding field
 length-field n at s h =
     let k : n ≤ length (drop at s) = simp length-drop (omega arith) in
     length-take-le n (drop at s) k
+
+-- of a field that the bytes end inside, what follows its place is present
+pub length-cut : (n at : ℕ) (s : List ℕ) → length s ≤ at + n → length (field n at s) ≡ length s - at
+unfolding field
+length-cut n at s h =
+    let k : length (drop at s) ≤ n = simp length-drop (omega arith) in
+    ap length (take-all n (drop at s) k) ∙ length-drop at s
 
 module _ (n at : ℕ) (s : List ℕ) (h : AllBytes s) (k : at + n ≤ length s) where
   all-field : AllBytes (field n at s)

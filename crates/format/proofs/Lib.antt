@@ -16,6 +16,7 @@ pub mod NumberLaws
 pub mod OrderLaws
 pub mod Pairs
 pub mod PartsStand
+pub mod Placed
 pub mod Places
 pub mod Records
 pub mod Rings

@@ -1,24 +1,41 @@
 -- Laws of tests in order, as code meets them: a test passed and the next stands, a test failed and its refusal is the answer.
-use mathlib.Core.Path.{_≡_, refl, sym, ap, _∙_, subst}
+use mathlib.Core.Path.{_≡_, refl, sym, ap, ap₂, _∙_, subst}
 use mathlib.Core.Bool.{Bool, true, false, cond, _&&_}
 use mathlib.Core.List.{List, [], _∷_, _++_}
-use Prim.Native.Nat.{ℕ, zero, suc, _+_, _*_, _-_, _/_, _≤_, _<_}
-use native.Mathlib.Nat.{mul-suc, suc-mul, mul-zero, zero-mul, add-zero, add-div-left, div-eq-of-lt}
+use Prim.Native.Nat.{ℕ, zero, suc, _+_, _*_, _-_, _/_, _%_, _≤_, _<_}
+use native.Mathlib.Nat.{mul-suc, suc-mul, mul-zero, zero-mul, add-zero, add-div-left, div-eq-of-lt, add-mod-left, mod-eq-of-lt}
 use native.Mathlib.Numerals.{add-one}
 use native.Mathlib.Omega.{arith}
 use lib.Dec.{T, leb}
 use lib.ListN.{length, drop}
 use borrow.Author.Tests.{le-leb, leb-true, leb-false}
+use Rattle.format.specs.Bytes.{field}
 use Rattle.format.specs.Order.{first, fieldsFrom}
 use Rattle.format.specs.Said.{Said, gives, refuses, short, Numbered}
+use Rattle.format.proofs.ByteLaws.{length-cut}
 
--- where the field of w bytes stands that l bytes end inside, after one more field
-next-cut : (w : ℕ) → 0 < w → (at l : ℕ) → at + w ≤ l → at + w + (l - (at + w)) / w * w ≡ at + (l - at) / w * w
-next-cut w pw at l p =
-    let e : l - at ≡ w + (l - (at + w)) = omega arith in
-    let d : (l - at) / w ≡ (l - (at + w)) / w + 1 = rw e (add-div-left (l - (at + w)) pw) in
-    let q = (l - (at + w)) / w in
-    rw (d, add-one, suc-mul q w) (omega arith)
+-- ---- of fields of w bytes each, from a place on: the one that l bytes end inside
+
+-- where it stands, and how many of its bytes are present
+abbrev pub cutPlace : ℕ → ℕ → ℕ → ℕ
+cutPlace w at l = at + (l - at) / w * w
+
+abbrev pub cutCount : ℕ → ℕ → ℕ → ℕ
+cutCount w at l = (l - at) % w
+
+-- after one more field
+module _ (w : ℕ) (pw : 0 < w) (at l : ℕ) (p : at + w ≤ l) where
+  after-one : l - at ≡ w + (l - (at + w))
+  after-one = omega arith
+
+  next-place : cutPlace w (at + w) l ≡ cutPlace w at l
+  next-place =
+      let d : (l - at) / w ≡ (l - (at + w)) / w + 1 = rw after-one (add-div-left (l - (at + w)) pw) in
+      let q = (l - (at + w)) / w in
+      rw (d, add-one, suc-mul q w) (omega arith)
+
+  next-count : cutCount w (at + w) l ≡ cutCount w at l
+  next-count = sym (rw after-one (add-mod-left w (l - (at + w))))
 
 -- ---- tests joined by `and`
 
@@ -71,10 +88,18 @@ module _ {A : Type 0} where
   pub stop : (ts : List (Bool × A)) (a r : A) (k : ℕ) → r ≡ rest k ts a → okAt k ts ≡ false → noAt k ts a ≡ r
   stop ts a r k p e = sym (p ∙ fails ts a k e)
 
-  -- ---- fields of one width, w bytes each
+  -- ---- fields
+
+  -- one that the bytes end inside: how many of its bytes are present, as code counts them
+  pub present : (short : ℕ → ℕ → A) (w at : ℕ) (s : List ℕ) (c : ℕ) → at + c ≡ length s → c < w → short at c ≡ short at (length (field w at s))
+  present short w at s c e h =
+      let n : length s - at ≡ c = omega arith in
+      ap (short at) (sym (length-cut w at s (omega arith) ∙ n))
+
+  -- fields of one width, w bytes each
 
   module _ (w : ℕ) (pw : 0 < w) where
-    pub fields-whole : (n at : ℕ) (s : List ℕ) (short : ℕ → A) (a : A) → at + w * n ≤ length s → first (fieldsFrom w n at s short) a ≡ a
+    pub fields-whole : (n at : ℕ) (s : List ℕ) (short : ℕ → ℕ → A) (a : A) → at + w * n ≤ length s → first (fieldsFrom w n at s short) a ≡ a
     fields-whole zero at s short a h = refl
     fields-whole (suc n) at s short a h =
         let k : at + (w * n + w) ≤ length s = rw mul-suc at h in
@@ -82,23 +107,27 @@ module _ {A : Type 0} where
         let q : at + w + w * n ≤ length s = omega arith in
         rw (le-leb (at + w) (length s) p) (fields-whole n (at + w) s short a q)
 
-    -- by the test of the first of them
-    cut-by : (b : Bool) (at l n : ℕ) (short : ℕ → A) (r : A) → leb (at + w) l ≡ b → at ≤ l → l < at + w * suc n → (at + w ≤ l → l < at + w + w * n → r ≡ short (at + w + (l - (at + w)) / w * w)) → cond b r (short at) ≡ short (at + (l - at) / w * w)
-    cut-by true at l n short r e h k ih =
-        let p : at + w ≤ l = leb-true (at + w) l e in
-        let m : l < at + (w * n + w) = rw mul-suc at k in
-        let q : l < at + w + w * n = omega arith in
-        ih p q ∙ ap short (next-cut w pw at l p)
-    cut-by false at l n short r e h k ih =
-        let p : l < at + w = leb-false (at + w) l e in
-        let m : l - at < w = omega arith in
-        ap short (rw (div-eq-of-lt m, zero-mul, add-zero) refl)
+    module _ (s : List ℕ) (short : ℕ → ℕ → A) where
+      abbrev cutFrom : ℕ → A
+      cutFrom at = short (cutPlace w at (length s)) (cutCount w at (length s))
+
+      -- by the test of the first of them
+      cut-by : (b : Bool) (at n : ℕ) (r : A) → leb (at + w) (length s) ≡ b → at ≤ length s → length s < at + w * suc n → (at + w ≤ length s → length s < at + w + w * n → r ≡ cutFrom (at + w)) → cond b r (short at (length (field w at s))) ≡ cutFrom at
+      cut-by true at n r e h k ih =
+          let p : at + w ≤ length s = leb-true (at + w) (length s) e in
+          let m : length s < at + (w * n + w) = rw mul-suc at k in
+          let q : length s < at + w + w * n = omega arith in
+          ih p q ∙ ap₂ short (next-place w pw at (length s) p) (next-count w pw at (length s) p)
+      cut-by false at n r e h k ih =
+          let p : length s < at + w = leb-false (at + w) (length s) e in
+          let m : length s - at < w = omega arith in
+          ap₂ short (rw (div-eq-of-lt m, zero-mul, add-zero) refl) (length-cut w at s (omega arith) ∙ sym (mod-eq-of-lt m))
 
     -- the first of them that the bytes end inside
-    pub fields-cut : (n at : ℕ) (s : List ℕ) (short : ℕ → A) (a : A) → at ≤ length s → length s < at + w * n → first (fieldsFrom w n at s short) a ≡ short (at + (length s - at) / w * w)
+    pub fields-cut : (n at : ℕ) (s : List ℕ) (short : ℕ → ℕ → A) (a : A) → at ≤ length s → length s < at + w * n → first (fieldsFrom w n at s short) a ≡ short (cutPlace w at (length s)) (cutCount w at (length s))
     fields-cut zero at s short a h k = absurd (let m : length s < at + 0 = rw mul-zero at k in omega arith)
     fields-cut (suc n) at s short a h k =
-        cut-by (leb (at + w) (length s)) at (length s) n short (first (fieldsFrom w n (at + w) s short) a) refl h k (λ p q. fields-cut n (at + w) s short a p q)
+        cut-by s short (leb (at + w) (length s)) at n (first (fieldsFrom w n (at + w) s short) a) refl h k (λ p q. fields-cut n (at + w) s short a p q)
 
 -- ---- an answer that no test refuses with passed every test
 

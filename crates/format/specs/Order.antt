@@ -4,6 +4,7 @@ use mathlib.Core.List.{List, [], _∷_}
 use Prim.Native.Nat.{ℕ, zero, suc, _+_}
 use lib.Dec.{leb}
 use lib.ListN.{length}
+use Rattle.format.specs.Bytes.{field}
 
 -- the field of n bytes from a place on lies within the bytes
 abbrev pub whole : ℕ → ℕ → List ℕ → Bool
@@ -15,11 +16,11 @@ module _ {A : Type 0} where
   first [] answer = answer
   first (t ∷ ts) answer = cond (t .0) (first ts answer) (t .1)
 
-  -- the field of n bytes from a place on, which has to be whole; `short` is the refusal that names its place
-  abbrev pub fieldAt : ℕ → ℕ → List ℕ → (ℕ → A) → Bool × A
-  fieldAt n at s short = (whole n at s, short at)
+  -- the field of n bytes from a place on, which has to be whole; `short` is the refusal that names its place and how many of its bytes are present
+  abbrev pub fieldAt : ℕ → ℕ → List ℕ → (ℕ → ℕ → A) → Bool × A
+  fieldAt n at s short = (whole n at s, short at (length (field n at s)))
 
   -- n fields of w bytes each
-  abbrev pub fieldsFrom : ℕ → ℕ → ℕ → List ℕ → (ℕ → A) → List (Bool × A)
+  abbrev pub fieldsFrom : ℕ → ℕ → ℕ → List ℕ → (ℕ → ℕ → A) → List (Bool × A)
   fieldsFrom w zero at s short = []
   fieldsFrom w (suc n) at s short = fieldAt w at s short ∷ fieldsFrom w n (at + w) s short

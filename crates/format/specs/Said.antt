@@ -9,9 +9,9 @@ pub data Said (A : Type 0) : Type 0 where
   refuses : ℕ → List ℤ → Said A
 
 module _ {A : Type 0} where
-  -- 1 Short: the bytes end inside the field being read; the offset of that field
-  abbrev pub short : ℕ → Said A
-  short at = refuses 1 (pos at ∷ [])
+  -- 1 Short: the bytes end inside the field being read; the offset of that field, and how many of its bytes are present
+  abbrev pub short : ℕ → ℕ → Said A
+  short at present = refuses 1 (pos at ∷ pos present ∷ [])
 
   -- 2 Code: the file code is not 9994; the code
   abbrev pub otherCode : ℤ → Said A

@@ -1,7 +1,7 @@
 -- Laws of two numbers one after the other: read, as the code's tests meet them, and written, as the code stores them.
 use mathlib.Core.Path.{_≡_, refl, sym, _∙_}
 use mathlib.Core.List.{List, _++_}
-use Prim.Native.Nat.{ℕ, _≤_, _<_}
+use Prim.Native.Nat.{ℕ, _-_, _≤_, _<_}
 use native.Mathlib.Omega.{arith}
 use lib.IntN.{ℤ}
 use lib.ListN.{length, replicate, length-append}
@@ -15,16 +15,17 @@ use Rattle.format.specs.Numbers.{beI32, i32Be}
 use Rattle.format.specs.Said.{gives, short}
 use Rattle.format.proofs.LayoutLaws.{onto, sets-all}
 use Rattle.format.proofs.NumberLaws.{length-i32Be, two-i32}
+use Rattle.format.proofs.OrderLaws.{present}
 use Rattle.header.specs.Entries.{twoOf}
 
 module _ {A : Type 0} (make : ℤ → ℤ → A) (s : List ℕ) where
-  pub cut-first : length s < 4 → short 0 ≡ twoOf make s
+  pub cut-first : length s < 4 → short 0 (length s) ≡ twoOf make s
   unfolding twoOf
-  cut-first h = rw (lt-leb 4 (length s) h)
+  cut-first h = rw (lt-leb 4 (length s) h) (present short 4 0 s (length s) (omega arith) h)
 
-  pub cut-second : 4 ≤ length s → length s < 8 → short 4 ≡ twoOf make s
+  pub cut-second : 4 ≤ length s → length s < 8 → short 4 (length s - 4) ≡ twoOf make s
   unfolding twoOf
-  cut-second h k = rw (le-leb 4 (length s) h, lt-leb 8 (length s) k)
+  cut-second h k = rw (le-leb 4 (length s) h, lt-leb 8 (length s) k) (present short 4 4 s (length s - 4) (omega arith) (omega arith))
 
   pub both-whole : (a b : ℤ) → 8 ≤ length s → a ≡ beI32 0 s → b ≡ beI32 4 s → gives (make a b) ≡ twoOf make s
   unfolding twoOf

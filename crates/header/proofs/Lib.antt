@@ -2,6 +2,7 @@
 pub mod EntriesBack
 pub mod EntryLaws
 pub mod Numbered
+pub mod Placed
 pub mod ReadLaws
 pub mod RoundTrip
 pub mod SaidLaws

@@ -2,7 +2,7 @@
 use mathlib.Core.Path.{_≡_, refl, sym, _∙_}
 use mathlib.Core.Bool.{true, false}
 use mathlib.Core.List.{List}
-use Prim.Native.Nat.{ℕ, suc, _+_, _*_, _-_, _/_, _^_, _≤_, _<_}
+use Prim.Native.Nat.{ℕ, suc, _+_, _*_, _^_, _≤_, _<_}
 use native.Mathlib.Nat.{add-zero}
 use native.Mathlib.Omega.{arith}
 use lib.Dec.{lit<}
@@ -16,7 +16,7 @@ use borrow.Author.Tests.{eq-eqb, ne-eqb}
 use Rattle.format.specs.Numbers.{beI32, leI32, leF64, doublesAt}
 use Rattle.format.specs.Said.{Said, gives, short}
 use Rattle.format.proofs.NumberLaws.{doubles-at}
-use Rattle.format.proofs.OrderLaws.{rest, okAt, noAt, on, stop, fields-whole, fields-cut}
+use Rattle.format.proofs.OrderLaws.{rest, okAt, noAt, on, stop, fields-whole, cutPlace, cutCount, fields-cut}
 use Rattle.header.specs.declared.bbox.BBoxZ.{BBoxZ}
 use Rattle.header.specs.declared.Header.{Header}
 use Rattle.header.specs.Box.{boxAt}
@@ -38,7 +38,7 @@ pub refused : (s : List ℕ) (k : ℕ) → headerOf s ≡ left k s → okAt k (h
 refused s k p e = stop (headerTests s) (gives (headerIn s)) (headerOf s) k p e
 
 -- the eight doubles, past the other tests
-pub cut : (s : List ℕ) → headerOf s ≡ left 8 s → 36 ≤ length s → length s < 100 → short (36 + (length s - 36) / 8 * 8) ≡ headerOf s
+pub cut : (s : List ℕ) → headerOf s ≡ left 8 s → 36 ≤ length s → length s < 100 → short (cutPlace 8 36 (length s)) (cutCount 8 36 (length s)) ≡ headerOf s
 cut s p h k = sym (p ∙ fields-cut 8 (lit< tt) 8 36 s short (gives (headerIn s)) h k)
 
 pub uncut : (s : List ℕ) → headerOf s ≡ left 8 s → 100 ≤ length s → headerOf s ≡ gives (headerIn s)

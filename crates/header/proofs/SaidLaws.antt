@@ -6,7 +6,7 @@ use Prim.Native.Nat.{ℕ}
 use lib.Dec.{eqb}
 use lib.IntN.{natAbs}
 use Rattle.format.specs.Said.{Said, gives, refuses}
-use Rattle.format.proofs.SaidLaws.{value, told-one}
+use Rattle.format.proofs.SaidLaws.{value, second, told-one}
 use Rattle.header.specs.declared.Header.{Header}
 use Rattle.header.specs.declared.HeaderAnswer.{HeaderAnswer}
 use Rattle.header.specs.declared.HeaderAnswer.the-variants.{Whole, Short, Code, Size, Unknown}
@@ -25,7 +25,7 @@ use Rattle.header.specs.Writing.{saidWrote}
 tellHeader : Said Header → HeaderAnswer
 tellHeader (gives h) = Whole h
 tellHeader (refuses n vs) =
-    cond (eqb n 1) (Short (natAbs (value vs)))
+    cond (eqb n 1) (Short (natAbs (value vs)) (natAbs (second vs)))
     (cond (eqb n 2) (Code (value vs))
     (cond (eqb n 3) (Size (natAbs (value vs))) (Unknown (value vs))))
 
@@ -35,7 +35,7 @@ said-one = told-one said tellHeader back
   where
     back : (a : HeaderAnswer) → tellHeader (said a) ≡ a
     back (Whole h) = refl
-    back (Short at) = refl
+    back (Short at present) = refl
     back (Code code) = refl
     back (Size at) = refl
     back (Unknown code) = refl
@@ -54,7 +54,7 @@ saidWrote-one bytes = told-one (λ a. saidWrote a bytes) tellWrote back
 
 tellRecord : Said RecordHeader → RecordHeaderAnswer
 tellRecord (gives h) = RecordIs.Whole h
-tellRecord (refuses n vs) = RecordIs.Short (natAbs (value vs))
+tellRecord (refuses n vs) = RecordIs.Short (natAbs (value vs)) (natAbs (second vs))
 
 pub saidRecord-one : (a b : RecordHeaderAnswer) → saidRecord a ≡ saidRecord b → a ≡ b
 unfolding tellRecord
@@ -62,11 +62,11 @@ saidRecord-one = told-one saidRecord tellRecord back
   where
     back : (a : RecordHeaderAnswer) → tellRecord (saidRecord a) ≡ a
     back (RecordIs.Whole h) = refl
-    back (RecordIs.Short at) = refl
+    back (RecordIs.Short at present) = refl
 
 tellEntry : Said ShapeIndex → ShapeIndexAnswer
 tellEntry (gives e) = EntryIs.Whole e
-tellEntry (refuses n vs) = EntryIs.Short (natAbs (value vs))
+tellEntry (refuses n vs) = EntryIs.Short (natAbs (value vs)) (natAbs (second vs))
 
 pub saidEntry-one : (a b : ShapeIndexAnswer) → saidEntry a ≡ saidEntry b → a ≡ b
 unfolding tellEntry
@@ -74,4 +74,4 @@ saidEntry-one = told-one saidEntry tellEntry back
   where
     back : (a : ShapeIndexAnswer) → tellEntry (saidEntry a) ≡ a
     back (EntryIs.Whole e) = refl
-    back (EntryIs.Short at) = refl
+    back (EntryIs.Short at present) = refl

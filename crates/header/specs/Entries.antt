@@ -31,11 +31,11 @@ shapeIndex offset words = record { offset = record { 0 = offset }; «content_len
 
 abbrev pub saidRecord : RecordHeaderAnswer → Said RecordHeader
 saidRecord (RecordIs.Whole h) = gives h
-saidRecord (RecordIs.Short at) = short at
+saidRecord (RecordIs.Short at present) = short at present
 
 abbrev pub saidEntry : ShapeIndexAnswer → Said ShapeIndex
 saidEntry (EntryIs.Whole e) = gives e
-saidEntry (EntryIs.Short at) = short at
+saidEntry (EntryIs.Short at present) = short at present
 
 -- ---- writing
 

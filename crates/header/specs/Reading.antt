@@ -1,8 +1,8 @@
 -- Reading a header: its fields are taken in file order, and the first one cut or wrong decides.
-use mathlib.Core.Bool.{Bool, false}
+use mathlib.Core.Bool.{Bool, false, cond}
 use mathlib.Core.List.{List, _∷_}
 use Prim.Native.Nat.{ℕ}
-use lib.Dec.{eqb}
+use lib.Dec.{eqb, leb}
 use lib.IntN.{ℤ, pos, negsuc}
 use lib.Signed.{nonNeg}
 use Rattle.format.specs.Kinds.{known}
@@ -17,7 +17,7 @@ use Rattle.header.specs.Box.{boxAt}
 -- the answers in document 01's terms
 abbrev pub said : HeaderAnswer → Said Header
 said (Whole h) = gives h
-said (Short at) = short at
+said (Short at present) = short at present
 said (Code code) = otherCode code
 said (Size at) = wrongSize at
 said (Unknown code) = unknown code
@@ -51,3 +51,7 @@ headerTests s =
 
 unfoldable pub headerOf : List ℕ → Said Header
 headerOf s = first (headerTests s) (gives (headerIn s))
+
+-- how wide the field at a place is: the unused bytes have twenty, a double of the box eight, and each other field four
+abbrev pub headerWidth : ℕ → ℕ
+headerWidth at = cond (eqb at 4) 20 (cond (leb 36 at) 8 4)

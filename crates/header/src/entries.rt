@@ -21,12 +21,12 @@ pub struct ShapeIndex {
 
 pub enum RecordHeaderAnswer {
     Whole(RecordHeader),
-    Short(usize),
+    Short(usize, usize),
 }
 
 pub enum ShapeIndexAnswer {
     Whole(ShapeIndex),
-    Short(usize),
+    Short(usize, usize),
 }
 
 pub fn read_record_header(s: &[u8]) -> RecordHeaderAnswer
@@ -34,10 +34,10 @@ pub fn read_record_header(s: &[u8]) -> RecordHeaderAnswer
 {
     let n = s.len();
     if n < 4 {
-        return RecordHeaderAnswer::Short(0);
+        return RecordHeaderAnswer::Short(0, n);
     }
     if n < 8 {
-        return RecordHeaderAnswer::Short(4);
+        return RecordHeaderAnswer::Short(4, n - 4);
     }
     RecordHeaderAnswer::Whole(RecordHeader {
         record_number: fields::be_i32_at(s, 0),
@@ -50,10 +50,10 @@ pub fn read_index_entry(s: &[u8]) -> ShapeIndexAnswer
 {
     let n = s.len();
     if n < 4 {
-        return ShapeIndexAnswer::Short(0);
+        return ShapeIndexAnswer::Short(0, n);
     }
     if n < 8 {
-        return ShapeIndexAnswer::Short(4);
+        return ShapeIndexAnswer::Short(4, n - 4);
     }
     ShapeIndexAnswer::Whole(ShapeIndex {
         offset: Words(fields::be_i32_at(s, 0)),

@@ -19,7 +19,7 @@ pub struct Header {
 
 pub enum HeaderAnswer {
     Whole(Header),
-    Short(usize),
+    Short(usize, usize),
     Code(i32),
     Size(usize),
     Unknown(i32),
@@ -30,35 +30,36 @@ pub fn read_header(s: &[u8]) -> HeaderAnswer
 {
     let n = s.len();
     if n < 4 {
-        return HeaderAnswer::Short(0);
+        return HeaderAnswer::Short(0, n);
     }
     let code = fields::be_i32_at(s, 0);
     if code != 9994 {
         return HeaderAnswer::Code(code);
     }
     if n < 24 {
-        return HeaderAnswer::Short(4);
+        return HeaderAnswer::Short(4, n - 4);
     }
     if n < 28 {
-        return HeaderAnswer::Short(24);
+        return HeaderAnswer::Short(24, n - 24);
     }
     let words = fields::be_i32_at(s, 24);
     if words < 0 {
         return HeaderAnswer::Size(24);
     }
     if n < 32 {
-        return HeaderAnswer::Short(28);
+        return HeaderAnswer::Short(28, n - 28);
     }
     let version = fields::le_i32_at(s, 28);
     if n < 36 {
-        return HeaderAnswer::Short(32);
+        return HeaderAnswer::Short(32, n - 32);
     }
     let kind = fields::le_i32_at(s, 32);
     let Found::Is(_) = format::kinds::find_kind(kind) else {
         return HeaderAnswer::Unknown(kind);
     };
     if n < 100 {
-        return HeaderAnswer::Short(36 + (n - 36) / 8 * 8);
+        let rest = n - 36;
+        return HeaderAnswer::Short(36 + rest / 8 * 8, rest % 8);
     }
     let bounds = bbox::box_at(s, 36);
     HeaderAnswer::Whole(Header {

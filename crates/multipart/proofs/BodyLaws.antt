@@ -154,6 +154,6 @@ module _ (z m : Bool) (s : List ℕ) (counts xy zs ms : ℕ) where
 module _ (z m : Bool) (s counts : List ℕ) (xy zs ms : List Float) where
   pub unread : (r : BodyAnswer) → T (isRefusal (saidBody r)) → saidBody r ≡ bodyOf z m s (length counts) (length xy) (length zs) (length ms) → ReadsBody z m s counts xy zs ms r counts xy zs ms
   unread (Is.Whole body) t e = absurd t
-  unread (Is.Short at) t e = record { says = e; counts-are = refl; xy-are = refl; z-are = refl; m-are = refl }
+  unread (Is.Short at present) t e = record { says = e; counts-are = refl; xy-are = refl; z-are = refl; m-are = refl }
   unread (Is.Size at) t e = record { says = e; counts-are = refl; xy-are = refl; z-are = refl; m-are = refl }
   unread (Is.Room p n) t e = record { says = e; counts-are = refl; xy-are = refl; z-are = refl; m-are = refl }

@@ -1,8 +1,8 @@
 -- Laws of the counts of a body, as the code's tests meet them: past test k, what is left of the tests has the answer.
-use mathlib.Core.Path.{_≡_, sym, ap, _∙_}
+use mathlib.Core.Path.{_≡_, sym, ap, ap₂, _∙_}
 use mathlib.Core.Bool.{Bool, true, false}
 use mathlib.Core.List.{List}
-use Prim.Native.Nat.{ℕ, suc, _+_, _*_, _-_, _/_, _≤_, _<_}
+use Prim.Native.Nat.{ℕ, suc, _*_, _/_, _%_, _≤_, _<_}
 use native.Mathlib.Nat.{zero-add, sub-zero}
 use native.Mathlib.Omega.{arith}
 use lib.Dec.{lit<}
@@ -12,7 +12,7 @@ use borrow.Author.Tests.{le-leb, leb-true}
 use Rattle.format.specs.Numbers.{leI32}
 use Rattle.format.specs.Order.{first, fieldsFrom}
 use Rattle.format.specs.Said.{Said, gives, refuses, short}
-use Rattle.format.proofs.OrderLaws.{rest, okAt, noAt, on, stop, fields-whole, fields-cut, passed, given, first-append}
+use Rattle.format.proofs.OrderLaws.{rest, okAt, noAt, on, stop, fields-whole, cutPlace, cutCount, fields-cut, passed, given, first-append}
 use Rattle.multipart.specs.declared.Body.{Body}
 use Rattle.multipart.specs.Answers.{Two, countsOf}
 use Rattle.multipart.specs.Body.{countTests}
@@ -40,10 +40,11 @@ module _ (s : List ℕ) where
   unfolding countsOf
   box-first = first-append (fieldsFrom 8 4 0 s short) (drop 4 tests) counts
 
-  pub box-cut : length s < 32 → short (length s / 8 * 8) ≡ countsOf s
+  pub box-cut : length s < 32 → short (length s / 8 * 8) (length s % 8) ≡ countsOf s
   box-cut h =
-      let e : 0 + (length s - 0) / 8 * 8 ≡ length s / 8 * 8 = rw (zero-add, sub-zero) in
-      ap short (sym e) ∙ sym (box-first ∙ fields-cut 8 (lit< tt) 4 0 s short (left 4) (omega arith) h)
+      let e : cutPlace 8 0 (length s) ≡ length s / 8 * 8 = rw (zero-add, sub-zero) in
+      let f : cutCount 8 0 (length s) ≡ length s % 8 = rw sub-zero in
+      ap₂ short (sym e) (sym f) ∙ sym (box-first ∙ fields-cut 8 (lit< tt) 4 0 s short (left 4) (omega arith) h)
 
   pub box-whole : 32 ≤ length s → countsOf s ≡ left 4
   box-whole h = box-first ∙ fields-whole 8 (lit< tt) 4 0 s short (left 4) h

@@ -7,7 +7,7 @@ use lib.Dec.{eqb}
 use lib.Ieee.{Float}
 use lib.IntN.{natAbs}
 use Rattle.format.specs.Said.{Said, gives, refuses, unlessRefused}
-use Rattle.format.proofs.SaidLaws.{value, told-one}
+use Rattle.format.proofs.SaidLaws.{value, second, told-one}
 use Rattle.multipart.specs.declared.Body.{Body}
 use Rattle.multipart.specs.declared.PartAnswer.{PartAnswer}
 use Rattle.multipart.specs.declared.PartAnswer.the-variants as PartIs
@@ -35,7 +35,7 @@ one-part = told-one saidPart tellPart back
 
 tellCounts : Said Two → CountsAnswer
 tellCounts (gives t) = CountsIs.Are (t .parts) (t .points)
-tellCounts (refuses n vs) = cond (eqb n 1) (CountsIs.Short (natAbs (value vs))) (CountsIs.Size (natAbs (value vs)))
+tellCounts (refuses n vs) = cond (eqb n 1) (CountsIs.Short (natAbs (value vs)) (natAbs (second vs))) (CountsIs.Size (natAbs (value vs)))
 
 pub one-counts : (a b : CountsAnswer) → saidCounts a ≡ saidCounts b → a ≡ b
 unfolding tellCounts
@@ -43,16 +43,16 @@ one-counts = told-one saidCounts tellCounts back
   where
     back : (a : CountsAnswer) → tellCounts (saidCounts a) ≡ a
     back (CountsIs.Are p n) = refl
-    back (CountsIs.Short at) = refl
+    back (CountsIs.Short at present) = refl
     back (CountsIs.Size at) = refl
 
 -- ---- a body, with the four stores
 
 tellBody : Said Body → BodyAnswer
 tellBody (gives b) = BodyIs.Whole b
-tellBody (refuses n (parts ∷ points ∷ vs)) = BodyIs.Room (natAbs parts) (natAbs points)
-tellBody (refuses n (at ∷ [])) = cond (eqb n 1) (BodyIs.Short (natAbs at)) (BodyIs.Size (natAbs at))
-tellBody (refuses n []) = BodyIs.Size 0
+tellBody (refuses n vs) =
+    cond (eqb n 1) (BodyIs.Short (natAbs (value vs)) (natAbs (second vs)))
+    (cond (eqb n 3) (BodyIs.Size (natAbs (value vs))) (BodyIs.Room (natAbs (value vs)) (natAbs (second vs))))
 
 pub one-body : (a b : BodyAnswer) → saidBody a ≡ saidBody b → a ≡ b
 unfolding tellBody
@@ -60,7 +60,7 @@ one-body = told-one saidBody tellBody back
   where
     back : (a : BodyAnswer) → tellBody (saidBody a) ≡ a
     back (BodyIs.Whole b) = refl
-    back (BodyIs.Short at) = refl
+    back (BodyIs.Short at present) = refl
     back (BodyIs.Size at) = refl
     back (BodyIs.Room parts points) = refl
 

@@ -2,9 +2,9 @@
 pub mod BodyLaws
 pub mod CountLaws
 pub mod Determined
-pub mod NearLaws
 pub mod Numbered
 mod PartLaws
+pub mod Placed
 pub mod RestLaws
 pub mod StartLaws
 mod StoreLaws

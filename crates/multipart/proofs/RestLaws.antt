@@ -10,7 +10,7 @@ use lib.ListN.{length}
 use Rattle.format.specs.Numbers.{leI32}
 use Rattle.format.specs.Order.{first, fieldsFrom}
 use Rattle.format.specs.Said.{Said, short}
-use Rattle.format.proofs.OrderLaws.{fields-whole, fields-cut, first-append}
+use Rattle.format.proofs.OrderLaws.{fields-whole, cutPlace, cutCount, fields-cut, first-append}
 use Rattle.multipart.specs.declared.Body.{Body}
 use Rattle.multipart.specs.declared.judge.Walk.{Walk}
 use Rattle.multipart.specs.declared.judge.Walk.the-variants.{On, Short, Size}
@@ -44,7 +44,7 @@ module _ (z m : Bool) (s : List ℕ) where
   abbrev mTests : List (Bool × Said Body)
   mTests = measureTests m (pointsIn s) (mAt z s) s
 
-  pub starts-cut : 40 ≤ length s → (length s - 40) / 4 < partsIn s → Refuses (restTests z m s) (short (40 + (length s - 40) / 4 * 4))
+  pub starts-cut : 40 ≤ length s → (length s - 40) / 4 < partsIn s → Refuses (restTests z m s) (short (cutPlace 4 40 (length s)) (cutCount 4 40 (length s)))
   starts-cut h k =
       sooner startTests (partsTests ++ (zTests ++ mTests)) _
       (λ a. fields-cut 4 (lit< tt) (partsIn s) 40 s short a h (omega arith))
@@ -82,7 +82,7 @@ PartsFound s = Finds (partTests 40 (pairsAt s) (differencesIn s) s) (λ points. 
 found : (s : List ℕ) (r : Walk) → PartsWalk (partsIn s) (leI32 36 s) s r → PartsFound s r
 unfolding pairsAt zAt pointsIn countsIn
 found s (On points) h = (h .0, (h .1 .0, rw (← h .1 .0) (h .1 .1)))
-found s (Short at) h = h
+found s (Short at present) h = h
 found s (Size at) h = h
 
 pub parts-found : (s : List ℕ) (p : ℕ) (n : ℤ) (r r′ : Walk) → p ≡ partsIn s → n ≡ leI32 36 s → r ≡ r′ → PartsWalk p n s r → PartsFound s r′

@@ -12,7 +12,7 @@ use Rattle.format.specs.Numbers.{leI32}
 use Rattle.format.specs.Order.{first, fieldsFrom}
 use Rattle.format.specs.Said.{Said, gives, short, wrongSize}
 use Rattle.format.specs.Shapes.{sum}
-use Rattle.format.proofs.OrderLaws.{fields-whole, fields-cut, first-append}
+use Rattle.format.proofs.OrderLaws.{fields-whole, cutPlace, cutCount, fields-cut, first-append}
 use Rattle.multipart.specs.declared.Body.{Body}
 use Rattle.multipart.specs.declared.judge.Walk.the-variants.{On, Short, Size}
 use Rattle.multipart.specs.Answers.{partOf}
@@ -52,7 +52,7 @@ module _ (left start at : ℕ) (n : ℤ) (s : List ℕ) (h : 0 < left) where
         let c = is-count _ _ k e in
         ap (λ (ts : List (Bool × Said Body)). first ts a) tests-are ∙ rw (c .1, c .0) (first-append (fieldsFrom 8 (2 * k) at s short) (later k) a)
 
-    part-cut : at ≤ length s → (length s - at) / 16 < k → Refuses tests (short (at + (length s - at) / 8 * 8))
+    part-cut : at ≤ length s → (length s - at) / 16 < k → Refuses tests (short (cutPlace 8 at (length s)) (cutCount 8 at (length s)))
     part-cut p q a = pairs-first a ∙ fields-cut 8 (lit< tt) (2 * k) at s short (first (later k) a) p (omega arith)
 
     part-on : at + 16 * k ≤ length s → (a : Said Body) → first tests a ≡ first (later k) a
@@ -87,7 +87,7 @@ module _ (p : ℕ) (n : ℤ) (s : List ℕ) where
     pub judging-refused : 0 < left → wrongSize 0 ≡ saidAt left start n s → PartsWalk p n s (Size start)
     judging-refused h e a = j .tests-left a ∙ part-refused left start at n s h e a
 
-    pub judging-cut : 0 < left → (k : ℕ) → gives k ≡ saidAt left start n s → (length s - at) / 16 < k → PartsWalk p n s (Short (at + (length s - at) / 8 * 8))
+    pub judging-cut : 0 < left → (k : ℕ) → gives k ≡ saidAt left start n s → (length s - at) / 16 < k → PartsWalk p n s (Short (cutPlace 8 at (length s)) (cutCount 8 at (length s)))
     judging-cut h k e q a = j .tests-left a ∙ part-cut left start at n s h k e (j .inside) q a
 
     pub judging-on : 0 < left → (k : ℕ) → gives k ≡ saidAt left start n s → k ≤ (length s - at) / 16 → Judging p n s (left - 1) (start + 4) (at + 16 * k) (points + k)
@@ -110,7 +110,7 @@ module _ (p : ℕ) (n : ℤ) (s : List ℕ) where
 -- ---- a range and n values
 
 module _ (flag : Bool) (n at : ℕ) (s : List ℕ) (h : at ≤ length s) where
-  pub measure-cut : flag ≡ true → (length s - at) / 8 < 2 + n → MeasureWalk flag n at s (Short (at + (length s - at) / 8 * 8))
+  pub measure-cut : flag ≡ true → (length s - at) / 8 < 2 + n → MeasureWalk flag n at s (Short (cutPlace 8 at (length s)) (cutCount 8 at (length s)))
   measure-cut e k a = rw e (fields-cut 8 (lit< tt) (2 + n) at s short a h (omega arith))
 
   pub measure-whole : flag ≡ true → 2 + n ≤ (length s - at) / 8 → MeasureWalk flag n at s (On (at + 16 + 8 * n))

@@ -37,7 +37,7 @@ pub record Two : Type 0 where
 
 abbrev pub saidCounts : CountsAnswer → Said Two
 saidCounts (CountsIs.Are p n) = gives (record { parts = p; points = n })
-saidCounts (CountsIs.Short at) = short at
+saidCounts (CountsIs.Short at present) = short at present
 saidCounts (CountsIs.Size at) = wrongSize at
 
 unfoldable pub countsOf : List ℕ → Said Two
@@ -47,7 +47,7 @@ countsOf s = first (countTests s) (gives (record { parts = natAbs (leI32 32 s); 
 
 abbrev pub saidBody : BodyAnswer → Said Body
 saidBody (BodyIs.Whole b) = gives b
-saidBody (BodyIs.Short at) = short at
+saidBody (BodyIs.Short at present) = short at present
 saidBody (BodyIs.Size at) = wrongSize at
 saidBody (BodyIs.Room parts points) = room parts points
 

@@ -2,7 +2,7 @@
 use mathlib.Core.Bool.{Bool, cond, _&&_, _||_, not}
 use mathlib.Core.List.{List, [], _∷_, _++_, map}
 use Prim.Native.Nat.{ℕ, _+_, _*_}
-use lib.Dec.{leb}
+use lib.Dec.{leb, ltb}
 use lib.Ieee.{Float, binary64, ofInt, lt, ofBits}
 use lib.IntN.{ℤ, pos, natAbs}
 use lib.Signed.{nonNeg}
@@ -40,6 +40,10 @@ zAt s = pairsAt s + 16 * pointsIn s
 -- behind z, where that is read
 unfoldable pub mAt : Bool → List ℕ → ℕ
 mAt z s = zAt s + cond z (16 + 8 * pointsIn s) 0
+
+-- how wide the field at a place is: p, n and each start have four bytes, and a double eight
+abbrev pub bodyWidth : List ℕ → ℕ → ℕ
+bodyWidth s at = cond (leb 32 at && ltb at (pairsAt s)) 4 8
 
 -- ---- the values
 

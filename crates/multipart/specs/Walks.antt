@@ -30,7 +30,7 @@ Refuses ts r = (a : Said Body) → first ts a ≡ r
 -- what a walk over them finds; P is what is known of its number where all pass
 abbrev pub Finds : List (Bool × Said Body) → (ℕ → Type 0) → Walk → Type 0
 Finds ts P (On n) = Passes ts × P n
-Finds ts P (Short at) = Refuses ts (short at)
+Finds ts P (Short at present) = Refuses ts (short at present)
 Finds ts P (Size at) = Refuses ts (wrongSize at)
 
 -- ---- the parts

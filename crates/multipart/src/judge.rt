@@ -10,10 +10,11 @@ ghost use Rattle.multipart.specs.Walks.{endOf, endAfter, PartsWalk, Meas
 use crate::PartAnswer;
 use crate::part_count;
 
-// What a walk over fields finds: a number, where all is well, or the place of the field that is cut or wrong.
+// What a walk over fields finds: a number, where all is well; or the place of the field that is cut, with how many of its bytes are present,
+// or of the one that is wrong.
 pub enum Walk {
     On(usize),
-    Short(usize),
+    Short(usize, usize),
     Size(usize),
 }
 
@@ -46,8 +47,9 @@ fn judge_parts(s: &[u8], p: usize, n: i32) -> Walk
             PartAnswer::Size => return Walk::Size(start),
             PartAnswer::Count(k) => {
                 let count = k as usize;
-                if (s.len() - at) / 16 < count {
-                    return Walk::Short(at + (s.len() - at) / 8 * 8);
+                let rest = s.len() - at;
+                if rest / 16 < count {
+                    return Walk::Short(at + rest / 8 * 8, rest % 8);
                 }
                 at += 16 * count;
                 points += count;
@@ -72,9 +74,9 @@ fn judge_measure(s: &[u8], flag: bool, n: usize, at: usize) -> Walk
     ensures { λ r. ⌜ MeasureWalk flag n at (now (s .entry)) r ⌝ }
 {
     if flag {
-        let whole = (s.len() - at) / 8;
-        if whole < 2 + n {
-            return Walk::Short(at + whole * 8);
+        let rest = s.len() - at;
+        if rest / 8 < 2 + n {
+            return Walk::Short(at + rest / 8 * 8, rest % 8);
         }
         return Walk::On(at + 16 + 8 * n);
     }
@@ -86,18 +88,18 @@ pub(crate) fn judge_rest(s: &[u8], z: bool, m: bool, p: usize, n: i32) -> Walk
     requires { ⌜ (40 ≤ length (now s)) × (p ≡ partsIn (now s)) × (n ≡ leI32 36 (now s)) ⌝ }
     ensures { λ r. ⌜ RestWalk z m (now (s .entry)) r ⌝ }
 {
-    let whole = (s.len() - 40) / 4;
-    if whole < p {
-        return Walk::Short(40 + whole * 4);
+    let rest = s.len() - 40;
+    if rest / 4 < p {
+        return Walk::Short(40 + rest / 4 * 4, rest % 4);
     }
     match judge_parts(s, p, n) {
-        Walk::Short(at) => Walk::Short(at),
+        Walk::Short(at, present) => Walk::Short(at, present),
         Walk::Size(at) => Walk::Size(at),
         Walk::On(points) => match judge_measure(s, z, points, 40 + 4 * p + 16 * points) {
-            Walk::Short(at) => Walk::Short(at),
+            Walk::Short(at, present) => Walk::Short(at, present),
             Walk::Size(at) => Walk::Size(at),
             Walk::On(end) => match judge_measure(s, m, points, end) {
-                Walk::Short(at) => Walk::Short(at),
+                Walk::Short(at, present) => Walk::Short(at, present),
                 Walk::Size(at) => Walk::Size(at),
                 Walk::On(_) => Walk::On(points),
             },

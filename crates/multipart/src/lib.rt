@@ -39,13 +39,13 @@ pub enum PartAnswer {
 // How many parts there are, and how many points the body says it has.
 pub enum CountsAnswer {
     Are(u32, u32),
-    Short(usize),
+    Short(usize, usize),
     Size(usize),
 }
 
 pub enum BodyAnswer {
     Whole(Body),
-    Short(usize),
+    Short(usize, usize),
     Size(usize),
     Room(usize, usize),
 }
@@ -70,14 +70,14 @@ pub fn read_counts(s: &[u8]) -> CountsAnswer
 {
     let len = s.len();
     if len < 32 {
-        return CountsAnswer::Short(len / 8 * 8);
+        return CountsAnswer::Short(len / 8 * 8, len % 8);
     }
     if len < 36 {
-        return CountsAnswer::Short(32);
+        return CountsAnswer::Short(32, len - 32);
     }
     let p = fields::le_i32_at(s, 32);
     if len < 40 {
-        return CountsAnswer::Short(36);
+        return CountsAnswer::Short(36, len - 36);
     }
     let n = fields::le_i32_at(s, 36);
     if p < 0 {
@@ -105,7 +105,7 @@ fn read_rest(
 {
     let n = fields::le_i32_at(s, 36);
     match judge::judge_rest(s, z, m, p, n) {
-        Walk::Short(at) => BodyAnswer::Short(at),
+        Walk::Short(at, present) => BodyAnswer::Short(at, present),
         Walk::Size(at) => BodyAnswer::Size(at),
         Walk::On(points) => {
             if store::has_room(z, m, p, points, counts.len(), xy.len(), zs.len(), ms.len()) {
@@ -130,7 +130,7 @@ pub fn read_body(
     ensures { λ r. ⌜ ReadsBody z m (now (s .entry)) (now (counts .entry)) (now (xy .entry)) (now (zs .entry)) (now (ms .entry)) r (now (counts .exit)) (now (xy .exit)) (now (zs .exit)) (now (ms .exit)) ⌝ }
 {
     match read_counts(s) {
-        CountsAnswer::Short(at) => BodyAnswer::Short(at),
+        CountsAnswer::Short(at, present) => BodyAnswer::Short(at, present),
         CountsAnswer::Size(at) => BodyAnswer::Size(at),
         CountsAnswer::Are(p, _) => read_rest(s, z, m, p as usize, counts, xy, zs, ms),
     }

@@ -1,14 +1,14 @@
 -- The contract determines the result: an answer is read back from what it says, and the stores go by the answer.
 use mathlib.Core.Path.{_≡_, refl, sym, ap, _∙_}
 use mathlib.Core.Bool.{Bool, cond}
-use mathlib.Core.List.{List, [], _∷_}
+use mathlib.Core.List.{List}
 use Prim.Native.Nat.{ℕ}
 use lib.Dec.{eqb}
 use lib.Ieee.{Float}
 use lib.IntN.{natAbs}
 use Rattle.format.specs.declared.units.Bytes.{Bytes}
 use Rattle.format.specs.Said.{Said, gives, refuses}
-use Rattle.format.proofs.SaidLaws.{told-one}
+use Rattle.format.proofs.SaidLaws.{value, second, told-one}
 use Rattle.record.specs.declared.Wanted.{Wanted}
 use Rattle.record.specs.declared.RecordAnswer.{RecordAnswer}
 use Rattle.record.specs.declared.RecordAnswer.the-variants as Is
@@ -18,12 +18,12 @@ tellRecord : Said Shaped → RecordAnswer
 tellRecord (gives nullShape) = Is.Null
 tellRecord (gives (pointShape code p)) = Is.Point code p
 tellRecord (gives (partsShape code m body)) = Is.Parts code m body
-tellRecord (refuses n []) = Is.Null
-tellRecord (refuses n (v ∷ [])) =
-    cond (eqb n 1) (Is.Short (natAbs v))
-    (cond (eqb n 3) (Is.Size (natAbs v))
-    (cond (eqb n 4) (Is.Unknown v) (Is.NotTaken v)))
-tellRecord (refuses n (v ∷ w ∷ vs)) = cond (eqb n 5) (Is.Mismatch v w) (Is.Room (natAbs v) (natAbs w))
+tellRecord (refuses n vs) =
+    cond (eqb n 1) (Is.Short (natAbs (value vs)) (natAbs (second vs)))
+    (cond (eqb n 3) (Is.Size (natAbs (value vs)))
+    (cond (eqb n 4) (Is.Unknown (value vs))
+    (cond (eqb n 5) (Is.Mismatch (value vs) (second vs))
+    (cond (eqb n 6) (Is.Room (natAbs (value vs)) (natAbs (second vs))) (Is.NotTaken (value vs))))))
 
 pub one-record : (a b : RecordAnswer) → saidRecord a ≡ saidRecord b → a ≡ b
 unfolding tellRecord
@@ -33,7 +33,7 @@ one-record = told-one saidRecord tellRecord back
     back Is.Null = refl
     back (Is.Point code p) = refl
     back (Is.Parts code m body) = refl
-    back (Is.Short at) = refl
+    back (Is.Short at present) = refl
     back (Is.Size at) = refl
     back (Is.Unknown code) = refl
     back (Is.Mismatch wanted found) = refl

@@ -19,12 +19,12 @@ use Rattle.format.specs.declared.units.Bytes.{Bytes}
 use Rattle.format.specs.Kinds.{known, kindAt}
 use Rattle.format.specs.Lengths.{formOf, lengthsOf, saidContent, contentOf}
 use Rattle.format.specs.Order.{first}
-use Rattle.format.specs.Said.{Said, notTaken}
+use Rattle.format.specs.Said.{Said, short, notTaken}
 use Rattle.format.specs.Shapes.{there}
 use Rattle.format.specs.Units.{sameInt, inI32}
 use Rattle.format.proofs.KindLaws.{known-there, known-some}
 use Rattle.format.proofs.LengthLaws.{lengths-form, content-none, content-some, told-unknown, told-kind}
-use Rattle.format.proofs.OrderLaws.{first-append}
+use Rattle.format.proofs.OrderLaws.{first-append, present}
 use Rattle.record.specs.declared.Wanted.{Wanted}
 use Rattle.record.specs.declared.Wanted.the-variants as Wants
 use Rattle.record.specs.declared.RecordAnswer.{RecordAnswer}
@@ -98,8 +98,8 @@ module _ (wanted : Wanted) (size : Bytes) (s : List ℕ) where
   abbrev tests : List (Bool × Said Shaped)
   tests = foundTests wanted size s
 
-  pub cut : length s < 4 → Refuses tests (Is.Short 0)
-  cut h = record { says = λ a. rw (lt-leb 4 (length s) h); none = refl }
+  pub cut : length s < 4 → Refuses tests (Is.Short 0 (length s))
+  cut h = record { says = λ a. rw (lt-leb 4 (length s) h) (present short 4 0 s (length s) (omega arith) h); none = refl }
 
   module _ (h : 4 ≤ length s) where
     pub found-unknown : known (codeIn s) ≡ false → Refuses tests (Is.Unknown (codeIn s))

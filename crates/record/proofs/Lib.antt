@@ -3,6 +3,7 @@ pub mod Determined
 mod FrontLaws
 pub mod Numbered
 mod PartsLaws
+pub mod Placed
 pub mod PointLaws
 pub mod ShapeLaws
 mod SizeLaws

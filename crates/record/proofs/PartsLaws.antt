@@ -22,14 +22,14 @@ use Rattle.record.specs.Steps.{storesNone, Answers, Reads, restFrom, par
 -- what the record answers where the body answers so
 abbrev pub after : ℤ → Bool → BodyAnswer → RecordAnswer
 after code m (BodyIs.Whole body) = Is.Parts code m body
-after code m (BodyIs.Short at) = Is.Short (4 + at)
+after code m (BodyIs.Short at present) = Is.Short (4 + at) present
 after code m (BodyIs.Size at) = Is.Size (4 + at)
 after code m (BodyIs.Room p n) = Is.Room p n
 
 module _ (code : ℤ) (z m : Bool) (b counts : List ℕ) (xy zs ms : List Float) (counts′ : List ℕ) (xy′ zs′ ms′ : List Float) where
   carried : (r : BodyAnswer) → saidRecord (after code m r) ≡ andThen (moved (saidBody r)) (λ body. gives (partsShape code m body))
   carried (BodyIs.Whole body) = refl
-  carried (BodyIs.Short at) = refl
+  carried (BodyIs.Short at present) = refl
   carried (BodyIs.Size at) = refl
   carried (BodyIs.Room p n) = refl
 
@@ -39,7 +39,7 @@ module _ (code : ℤ) (z m : Bool) (b counts : List ℕ) (xy zs ms : List Float)
 
   reads : (r : BodyAnswer) → ReadsBody z m b counts xy zs ms r counts′ xy′ zs′ ms′ → Reads (restFrom code z m b (length counts) (length xy) (length zs) (length ms)) z b counts xy zs ms (after code m r) counts′ xy′ zs′ ms′
   reads (BodyIs.Whole body) h = record { says = rest-says (BodyIs.Whole body) h; counts-are = h .counts-are; xy-are = h .xy-are; z-are = h .z-are; m-are = h .m-are }
-  reads (BodyIs.Short at) h = record { says = rest-says (BodyIs.Short at) h; counts-are = h .counts-are; xy-are = h .xy-are; z-are = h .z-are; m-are = h .m-are }
+  reads (BodyIs.Short at present) h = record { says = rest-says (BodyIs.Short at present) h; counts-are = h .counts-are; xy-are = h .xy-are; z-are = h .z-are; m-are = h .m-are }
   reads (BodyIs.Size at) h = record { says = rest-says (BodyIs.Size at) h; counts-are = h .counts-are; xy-are = h .xy-are; z-are = h .z-are; m-are = h .m-are }
   reads (BodyIs.Room p n) h = record { says = rest-says (BodyIs.Room p n) h; counts-are = h .counts-are; xy-are = h .xy-are; z-are = h .z-are; m-are = h .m-are }
 
@@ -52,7 +52,7 @@ pub stored-none : {A : Type 0} (r : RecordAnswer) (store : List A) (values : Boo
 stored-none Is.Null store values e = refl
 stored-none (Is.Point code p) store values e = refl
 stored-none (Is.Parts code m body) store values e = cc
-stored-none (Is.Short at) store values e = refl
+stored-none (Is.Short at present) store values e = refl
 stored-none (Is.Size at) store values e = refl
 stored-none (Is.Unknown code) store values e = refl
 stored-none (Is.Mismatch wanted found) store values e = refl
@@ -82,8 +82,8 @@ module _ (code : ℤ) (k : Kind) (size : Bytes) (b : List ℕ) (counts xy zs ms 
   unfolding partsFrom
   from-counts r e = ap (λ (x : Said Two). andThen (moved x) next) e
 
-  pub counts-short : (at : ℕ) → saidCounts (CountsIs.Short at) ≡ countsOf b → Answers whole (Is.Short (4 + at))
-  counts-short at e = record { says = from-counts _ e; none = refl }
+  pub counts-short : (at present : ℕ) → saidCounts (CountsIs.Short at present) ≡ countsOf b → Answers whole (Is.Short (4 + at) present)
+  counts-short at present e = record { says = from-counts _ e; none = refl }
 
   pub counts-size : (at : ℕ) → saidCounts (CountsIs.Size at) ≡ countsOf b → Answers whole (Is.Size (4 + at))
   counts-size at e = record { says = from-counts _ e; none = refl }

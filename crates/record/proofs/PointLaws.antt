@@ -2,7 +2,7 @@
 use mathlib.Core.Path.{_≡_, refl, sym, ap, ap₂, _∙_}
 use mathlib.Core.Bool.{Bool, true, false, cond}
 use mathlib.Core.List.{List}
-use Prim.Native.Nat.{ℕ, _+_, _*_, _-_, _/_, _≤_, _<_}
+use Prim.Native.Nat.{ℕ, _+_, _*_, _≤_, _<_}
 use native.Mathlib.Omega.{arith}
 use lib.Dec.{lit<}
 use lib.IntN.{ℤ}
@@ -14,7 +14,7 @@ use Rattle.format.specs.Lengths.{onePoint, contentWords, lengthsFor, formulaWor
 use Rattle.format.specs.Order.{first, fieldsFrom}
 use Rattle.format.specs.Said.{Said, gives, short}
 use Rattle.format.proofs.Equations.{words-are}
-use Rattle.format.proofs.OrderLaws.{fields-whole, fields-cut}
+use Rattle.format.proofs.OrderLaws.{fields-whole, cutPlace, cutCount, fields-cut}
 use Rattle.record.specs.declared.Point.{Point}
 use Rattle.record.specs.declared.RecordAnswer.the-variants as Is
 use Rattle.record.specs.Reading.{Shaped, pointShape, codeIn, isWords, pointIn, doublesOf, pointOf}
@@ -65,7 +65,7 @@ module _ (k : Kind) (l : Lengths) (size : Bytes) (s : List ℕ) (e : l ≡ lengt
     fits : isWords size (contentWords onePoint (k .z) (k .m) 0 1) ≡ true
     fits = sym (q ∙ size-is)
 
-    pub point-cut : 4 ≤ length s → length s < 4 + 8 * doublesOf k → Answers (pointOf k size s) (Is.Short (4 + (length s - 4) / 8 * 8))
+    pub point-cut : 4 ≤ length s → length s < 4 + 8 * doublesOf k → Answers (pointOf k size s) (Is.Short (cutPlace 8 4 (length s)) (cutCount 8 4 (length s)))
     point-cut h c = record { says = sym (fields-left k size s fits ∙ fields-cut 8 (lit< tt) (doublesOf k) 4 s short (shaped k size s fits) h c); none = refl }
 
     pub point-whole : 4 + 8 * doublesOf k ≤ length s → (code : ℤ) (p : Point) → code ≡ codeIn s → p ≡ pointIn k s → Answers (pointOf k size s) (Is.Point code p)

@@ -1,10 +1,10 @@
 -- Reading a record from its content and a size in bytes, with a wanted kind or none: the order of refusals, and what is read.
 use mathlib.Core.Path.{_≡_}
 use mathlib.Core.Bool.{Bool, true, false, cond, _&&_, _||_, not}
-use mathlib.Core.List.{List, [], _∷_, _++_, map}
+use mathlib.Core.List.{List, [], _∷_, _++_}
 use mathlib.Core.Option.{Option, none, some}
-use Prim.Native.Nat.{ℕ, _+_, _*_}
-use lib.Dec.{eqb}
+use Prim.Native.Nat.{ℕ, _+_, _*_, _-_}
+use lib.Dec.{eqb, leb}
 use lib.Ieee.{Float, binary64, ofInt}
 use lib.IntN.{ℤ, pos, _+ℤ_, _-ℤ_}
 use lib.ListN.{length, drop}
@@ -20,7 +20,7 @@ use Rattle.format.specs.Shapes.{there}
 use Rattle.format.specs.Units.{sameInt, inI32}
 use Rattle.multipart.specs.declared.Body.{Body}
 use Rattle.multipart.specs.Answers.{Two, countsOf}
-use Rattle.multipart.specs.Body.{bodyOf, countsIn, xyIn, zIn, mIn}
+use Rattle.multipart.specs.Body.{bodyWidth, bodyOf, countsIn, xyIn, zIn, mIn}
 use Rattle.record.specs.declared.Wanted.{Wanted}
 use Rattle.record.specs.declared.Wanted.the-variants as Wants
 use Rattle.record.specs.declared.Point.{Point}
@@ -89,10 +89,14 @@ pointOf k size s =
     first ((isWords size (contentWords onePoint (k .z) (k .m) 0 1), wrongSize 0) ∷ fieldsFrom 8 (doublesOf k) 4 s short)
     (gives (pointShape (codeIn s) (pointIn k s)))
 
--- an offset that is counted from the body's first byte, which is the content's fifth
+-- an offset that is counted from the body's first byte, which is the content's fifth; what follows it is no offset
+abbrev pub ahead : List ℤ → List ℤ
+ahead [] = []
+ahead (offset ∷ more) = (pos 4 +ℤ offset) ∷ more
+
 abbrev pub moved : {A : Type 0} → Said A → Said A
 moved (gives a) = gives a
-moved (refuses n values) = cond (eqb n 1 || eqb n 3) (refuses n (map (λ z. pos 4 +ℤ z) values)) (refuses n values)
+moved (refuses n values) = cond (eqb n 1 || eqb n 3) (refuses n (ahead values)) (refuses n values)
 
 -- what follows from what is given
 abbrev pub andThen : {A B : Type 0} → Said A → (A → Said B) → Said B
@@ -125,13 +129,23 @@ unfoldable pub recordOf : Wanted → Bytes → List ℕ → ℕ → ℕ → ℕ 
 recordOf wanted size s counts xy zs ms =
     first (frontTests wanted size s) (byForm (formAt (codeIn s)) (kindOr (kindAt (codeIn s))) size s counts xy zs ms)
 
+-- how wide the field at a place is: the kind's has four bytes, and the body's fields follow it; a point's have eight
+abbrev pub widthBy : Option Form → List ℕ → ℕ → ℕ
+widthBy none b at = 8
+widthBy (some nothing) b at = 8
+widthBy (some onePoint) b at = 8
+widthBy (some parts) b at = bodyWidth b at
+
+abbrev pub contentWidth : List ℕ → ℕ → ℕ
+contentWidth s at = cond (leb 4 at) (widthBy (formAt (codeIn s)) (drop 4 s) (at - 4)) 4
+
 -- ---- the answer in document 01's terms, and the stores
 
 abbrev pub saidRecord : RecordAnswer → Said Shaped
 saidRecord Is.Null = gives nullShape
 saidRecord (Is.Point code p) = gives (pointShape code p)
 saidRecord (Is.Parts code m body) = gives (partsShape code m body)
-saidRecord (Is.Short at) = short at
+saidRecord (Is.Short at present) = short at present
 saidRecord (Is.Size at) = wrongSize at
 saidRecord (Is.Unknown code) = unknown code
 saidRecord (Is.Mismatch wanted found) = mismatch wanted found
@@ -143,7 +157,7 @@ abbrev pub stored : {A : Type 0} → RecordAnswer → List A → (Bool → List 
 stored Is.Null store values = store
 stored (Is.Point code p) store values = store
 stored (Is.Parts code m body) store values = sets store 0 (values m)
-stored (Is.Short at) store values = store
+stored (Is.Short at present) store values = store
 stored (Is.Size at) store values = store
 stored (Is.Unknown code) store values = store
 stored (Is.Mismatch wanted found) store values = store

@@ -39,7 +39,7 @@ abbrev pub storesNone : RecordAnswer → Bool
 storesNone Is.Null = true
 storesNone (Is.Point code p) = true
 storesNone (Is.Parts code m body) = false
-storesNone (Is.Short at) = true
+storesNone (Is.Short at present) = true
 storesNone (Is.Size at) = true
 storesNone (Is.Unknown code) = true
 storesNone (Is.Mismatch wanted found) = true

@@ -66,7 +66,7 @@ fn judge_found(s: &[u8], size: Bytes, wanted: Wanted) -> Front
     ensures { λ r. ⌜ Fronts (foundTests wanted size (now (s .entry))) size (now (s .entry)) r ⌝ }
 {
     if s.len() < 4 {
-        return Front::Refused(RecordAnswer::Short(0));
+        return Front::Refused(RecordAnswer::Short(0, s.len()));
     }
     let code = fields::le_i32_at(s, 0);
     let Found::Is(kind) = format::kinds::find_kind(code) else {

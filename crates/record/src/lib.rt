@@ -34,7 +34,7 @@ pub enum RecordAnswer {
     Null,
     Point(i32, Point),
     Parts(i32, bool, Body),
-    Short(usize),
+    Short(usize, usize),
     Size(usize),
     Unknown(i32),
     Mismatch(i32, i32),

@@ -27,7 +27,7 @@ fn read_rest(
     ensures { λ r. ⌜ Reads (restFrom code z m (now (b .entry)) (length (now (counts .entry))) (length (now (xy .entry))) (length (now (zs .entry))) (length (now (ms .entry)))) z (now (b .entry)) (now (counts .entry)) (now (xy .entry)) (now (zs .entry)) (now (ms .entry)) r (now (counts .exit)) (now (xy .exit)) (now (zs .exit)) (now (ms .exit)) ⌝ }
 {
     match multipart::read_body(b, z, m, counts, xy, zs, ms) {
-        BodyAnswer::Short(at) => RecordAnswer::Short(4 + at),
+        BodyAnswer::Short(at, present) => RecordAnswer::Short(4 + at, present),
         BodyAnswer::Size(at) => RecordAnswer::Size(4 + at),
         BodyAnswer::Room(p, n) => RecordAnswer::Room(p, n),
         BodyAnswer::Whole(body) => RecordAnswer::Parts(code, m, body),
@@ -50,7 +50,7 @@ pub(crate) fn read_parts(
     ensures { λ r. ⌜ Reads (partsFrom code k size (now (b .entry)) (length (now (counts .entry))) (length (now (xy .entry))) (length (now (zs .entry))) (length (now (ms .entry)))) (k .z) (now (b .entry)) (now (counts .entry)) (now (xy .entry)) (now (zs .entry)) (now (ms .entry)) r (now (counts .exit)) (now (xy .exit)) (now (zs .exit)) (now (ms .exit)) ⌝ }
 {
     match multipart::read_counts(b) {
-        CountsAnswer::Short(at) => RecordAnswer::Short(4 + at),
+        CountsAnswer::Short(at, present) => RecordAnswer::Short(4 + at, present),
         CountsAnswer::Size(at) => RecordAnswer::Size(4 + at),
         CountsAnswer::Are(p, n) => match sizes::judge_size(size, k, l, p, n) {
             Sized::Without => read_rest(code, k.z, false, b, counts, xy, zs, ms),

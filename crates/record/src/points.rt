@@ -71,7 +71,8 @@ pub(crate) fn read_point(s: &[u8], code: i32, k: Kind, l: Lengths, size: Bytes) 
     }
     let n = s.len();
     if n < point_end(k) {
-        return RecordAnswer::Short(4 + (n - 4) / 8 * 8);
+        let rest = n - 4;
+        return RecordAnswer::Short(4 + rest / 8 * 8, rest % 8);
     }
     RecordAnswer::Point(code, point_at(s, k))
 }

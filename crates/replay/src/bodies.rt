@@ -124,7 +124,7 @@ fn judged(
                 ms,
             )
         }
-        BodyAnswer::Short(at) => refused(e, 1, at, counts, xy, zs, ms),
+        BodyAnswer::Short(at, _) => refused(e, 1, at, counts, xy, zs, ms),
         BodyAnswer::Size(at) => refused(e, 3, at, counts, xy, zs, ms),
         BodyAnswer::Room(_, _) => false,
     }

@@ -21,7 +21,7 @@ pub fn header_read(s: &[u8], e: &[u8]) -> bool {
             let c = seen::int(e, c, h.shape_type);
             seen::whole(e, seen::bounds(e, c, h.bbox))
         }
-        HeaderAnswer::Short(at) => seen::refusal(e, 1, at as u64),
+        HeaderAnswer::Short(at, _) => seen::refusal(e, 1, at as u64),
         HeaderAnswer::Code(code) => seen::refusal(e, 2, fields::unsigned(code)),
         HeaderAnswer::Size(at) => seen::refusal(e, 3, at as u64),
         HeaderAnswer::Unknown(code) => seen::refusal(e, 4, fields::unsigned(code)),
@@ -57,7 +57,7 @@ pub fn record_header_read(s: &[u8], e: &[u8]) -> bool {
             let c = seen::int(e, c, h.record_number);
             seen::whole(e, seen::int(e, c, words.0))
         }
-        RecordHeaderAnswer::Short(at) => seen::refusal(e, 1, at as u64),
+        RecordHeaderAnswer::Short(at, _) => seen::refusal(e, 1, at as u64),
     }
 }
 
@@ -90,7 +90,7 @@ fn entry_read(e: &[u8], a: i32, b: i32) -> bool {
             let words = i.content_length;
             if offset.0 == a { words.0 == b } else { false }
         }
-        ShapeIndexAnswer::Short(_) => false,
+        ShapeIndexAnswer::Short(_, _) => false,
     }
 }
 

@@ -112,8 +112,8 @@ isInner inner = pos 1 ∷ []
 
 unfoldable pub rows : List Row
 rows =
-    -- 27 header bytes, right code: 1 at 24
-    record { given = read (take 27 (header 50)); document = pos 1 ∷ pos 24 ∷ [] }
+    -- 27 header bytes, right code: 1 at 24, of whose field 3 bytes are present
+    record { given = read (take 27 (header 50)); document = pos 1 ∷ pos 24 ∷ pos 3 ∷ [] }
     -- 4 bytes, code 9995: 2 with 9995
     ∷ record { given = read (0 ∷ 0 ∷ 39 ∷ 11 ∷ []); document = pos 2 ∷ pos 9995 ∷ [] }
     -- file length -1: 3 at 24; length 0 is read
@@ -128,9 +128,9 @@ rows =
     ∷ record { given = readCounts (body (0 ∷ 2 ∷ []) 5 5); document = pos 0 ∷ pos 2 ∷ pos 3 ∷ [] }
     ∷ record { given = readPairs (body (3 ∷ []) 5 5); document = pos 0 ∷ pos 2 ∷ pos 1 ∷ pos 2 ∷ pos 3 ∷ pos 4 ∷ [] }
     ∷ record { given = readCounts (body (0xffff_fffe ∷ []) 5 7); document = pos 0 ∷ pos 7 ∷ [] }
-    -- starts 0, 4, 2 with n=5: 3 at 44, or 1 if part 0 is cut, here inside its last pair, at 100
+    -- starts 0, 4, 2 with n=5: 3 at 44, or 1 if part 0 is cut, here in front of its last pair, at 100
     ∷ record { given = readCounts (body (0 ∷ 4 ∷ 2 ∷ []) 5 4); document = pos 3 ∷ pos 44 ∷ [] }
-    ∷ record { given = readCounts (body (0 ∷ 4 ∷ 2 ∷ []) 5 3); document = pos 1 ∷ pos 100 ∷ [] }
+    ∷ record { given = readCounts (body (0 ∷ 4 ∷ 2 ∷ []) 5 3); document = pos 1 ∷ pos 100 ∷ pos 0 ∷ [] }
     -- start -1, n=2,147,483,647: 3 at 40
     ∷ record { given = readCounts (body (0xffff_ffff ∷ []) 2147483647 0); document = pos 3 ∷ pos 40 ∷ [] }
     -- the square is outer; reversed, inner; an empty run is not closed, and outer

@@ -8,10 +8,13 @@ use std::fmt;
 #[derive(Debug, Clone, Copy, PartialEq, Eq, Hash)]
 #[non_exhaustive]
 pub enum Error {
-    /// 1: the bytes end inside a field.
+    /// 1: the bytes end inside a field. There are `at + present` bytes, and the field has more than
+    /// `present`.
     Short {
         /// The field's offset.
         at: usize,
+        /// How many of the field's bytes are there: 0 where it would begin behind the last byte.
+        present: usize,
     },
     /// 2: the file code is this one and not 9994.
     Code(i32),
@@ -84,8 +87,17 @@ impl Error {
 impl fmt::Display for Error {
     fn fmt(&self, f: &mut fmt::Formatter<'_>) -> fmt::Result {
         match self {
-            Error::Short { at } => {
-                write!(f, "short: the bytes end inside the field at offset {at}")
+            Error::Short { at, present } => {
+                let there = match present {
+                    0 => "none of its bytes is".to_string(),
+                    1 => "1 of its bytes is".to_string(),
+                    _ => format!("{present} of its bytes are"),
+                };
+                let all = at.saturating_add(present);
+                write!(
+                    f,
+                    "short: the bytes end inside the field at offset {at}: {there} there, {all} in all"
+                )
             }
             Error::Code(code) => write!(f, "code: the file code is {code} and not 9994"),
             Error::Size { at } => write!(f, "size: a size at offset {at} does not fit"),
@@ -125,7 +137,10 @@ impl Refusal {
         let (code, found) = (self.first as i32, self.second as i32);
         Err(match self.number {
             0 => return Ok(()),
-            1 => Error::Short { at: first },
+            1 => Error::Short {
+                at: first,
+                present: second,
+            },
             2 => Error::Code(code),
             3 => Error::Size { at: first },
             4 => Error::Unknown(code),
@@ -170,7 +185,7 @@ mod tests {
     #[test]
     fn values_are_kept() {
         let minus_two = u64::from(-2i32 as u32);
-        assert_eq!(refused(1, 24, 0), Err(Error::Short { at: 24 }));
+        assert_eq!(refused(1, 24, 3), Err(Error::Short { at: 24, present: 3 }));
         assert_eq!(refused(2, minus_two, 0), Err(Error::Code(-2)));
         assert_eq!(refused(4, minus_two, 0), Err(Error::Unknown(-2)));
         assert_eq!(
@@ -211,6 +226,19 @@ mod tests {
             assert!(!line.is_empty() && !line.contains('\n'));
             assert!(!lines[..i].contains(line), "two refusals say: {line}");
         }
+        let short = |at, present| refused(1, at, present).unwrap_err().to_string();
+        assert_eq!(
+            short(24, 3),
+            "short: the bytes end inside the field at offset 24: 3 of its bytes are there, 27 in all"
+        );
+        assert_eq!(
+            short(24, 1),
+            "short: the bytes end inside the field at offset 24: 1 of its bytes is there, 25 in all"
+        );
+        assert_eq!(
+            short(24, 0),
+            "short: the bytes end inside the field at offset 24: none of its bytes is there, 24 in all"
+        );
         assert_eq!(lines[7], "fault: rule P3 is broken at record 5");
         let headers = refused(8, 3, 0).unwrap_err().to_string();
         assert_eq!(headers, "fault: rule P3 is broken in the headers");

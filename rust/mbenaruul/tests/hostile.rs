@@ -64,19 +64,22 @@ fn counts_that_the_bytes_do_not_hold() {
     let parts = content(3, 500_000_000, 0, &[], &[]);
     assert_eq!(
         read(&parts, size(500_000_000, 0), None),
-        Err(Error::Short { at: 44 })
+        Err(Error::Short { at: 44, present: 0 })
     );
     // a hundred million points, and not one pair
     let points = content(3, 1, 100_000_000, &[0], &[]);
     assert_eq!(
         read(&points, size(1, 100_000_000), None),
-        Err(Error::Short { at: 48 })
+        Err(Error::Short { at: 48, present: 0 })
     );
     // a part that starts far below 0 has more points than the count says
     let below = content(3, 1, 5, &[-1_000_000_000], &[0.0; 10]);
     assert_eq!(
         read(&below, size(1, 5), None),
-        Err(Error::Short { at: 128 })
+        Err(Error::Short {
+            at: 128,
+            present: 0
+        })
     );
     // no size fits these counts
     let most = content(3, i32::MAX, i32::MAX, &[0], &[]);
@@ -165,7 +168,7 @@ fn every_size_and_wanted_kind_is_answered() {
 
 #[test]
 fn nothing_at_all_is_answered_by_every_call() {
-    let short = Error::Short { at: 0 };
+    let short = Error::Short { at: 0, present: 0 };
     assert_eq!(read_header(&[]), Err(short));
     assert_eq!(read_record_header(&[]), Err(short));
     assert_eq!(read_index_entry(&[]), Err(short));

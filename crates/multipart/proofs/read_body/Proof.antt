@@ -26,7 +26,7 @@ returns : tie.Need-returns
 returns c =
     let j = c .before .before .before in
     unread _ _ _ _ _ _ _ _ tt
-    (counts-refused (e1 j .args .z) (e1 j .args .m) (e1 j .args .s .now) _ _ _ _ _ (counts-stop _ _ _ (told j (Is.Short (c .before .at .given .0 .0)) (c .before .at .given .1))))
+    (counts-refused (e1 j .args .z) (e1 j .args .m) (e1 j .args .s .now) _ _ _ _ _ (counts-stop _ _ _ (told j (Is.Short (c .before .at .given .0 .0) (c .before .at .given .0 .1 .0)) (c .before .at .given .1))))
 
 returns-2 : tie.Need-returns-2
 returns-2 c =

@@ -1,8 +1,9 @@
 -- `multipart::read_counts` meets its contract: at each place past the first k tests, the answer is that of the tests that are left.
-use mathlib.Core.Path.{_≡_, sym}
+use mathlib.Core.Path.{_≡_, sym, _∙_}
 use mathlib.Core.Bool.{Bool, true, false}
 use mathlib.Core.List.{List}
 use Prim.Native.Nat.{ℕ}
+use native.Mathlib.Omega.{arith}
 use lib.IntN.{pos}
 use lib.Signed.{ltZ}
 use mir.Syntax.{w32}
@@ -10,6 +11,8 @@ use mir.Val.{toZ, ofZ}
 use borrow.Author.Needs.{needs}
 use borrow.Author.Tests.{le-leb, lt-leb}
 use Rattle.format.specs.Numbers.{leI32}
+use Rattle.format.specs.Said.{short}
+use Rattle.format.proofs.OrderLaws.{present}
 use Rattle.format.proofs.SignLaws.{back, casts, sign-test, nonNeg-yes, nonNeg-no}
 use Rattle.multipart.specs.Answers.{countsOf}
 use Rattle.multipart.proofs.CountLaws.{left, box-cut, box-whole, past, refused}
@@ -68,10 +71,14 @@ returns : tie.Need-returns
 returns c = box-cut (c .before .before .args .s .now) (c .if1 .taken)
 
 returns-2 : tie.Need-returns-2
-returns-2 c = refused (s1 (c .before)) 4 (at4 (c .before)) (lt-leb 36 _ (c .if2 .taken))
+returns-2 c =
+    let b = c .before in
+    present short 4 32 (s1 b) _ (omega (arith, b .if1 .left)) (omega (arith, c .if2 .taken)) ∙ refused (s1 b) 4 (at4 b) (lt-leb 36 _ (c .if2 .taken))
 
 returns-3 : tie.Need-returns-3
-returns-3 c = refused (s2 (c .before .before)) 5 (at5 (c .before .before)) (lt-leb 40 _ (c .if3 .taken))
+returns-3 c =
+    let b = c .before .before in
+    present short 4 36 (s2 b) _ (omega (arith, b .if2 .left)) (omega (arith, c .if3 .taken)) ∙ refused (s2 b) 5 (at5 b) (lt-leb 40 _ (c .if3 .taken))
 
 returns-4 : tie.Need-returns-4
 returns-4 c =
@@ -83,13 +90,13 @@ returns-5 c =
     let s = s4 (c .before) in
     refused s 7 (at7 (c .before)) (nonNeg-no (leI32 36 s) (n-sign (c .before .before) true (c .if5 .taken)))
 
-cast-t8 : tie.Need-cast-t8
-cast-t8 c =
+cast-t11 : tie.Need-cast-t11
+cast-t11 c =
     let r = c .before .before .before .before .le-i32-at in
     casts (r .result) (record { sfits = r .ok }) (c .before .if4 .left)
 
-cast-t9 : tie.Need-cast-t9
-cast-t9 c =
+cast-t12 : tie.Need-cast-t12
+cast-t12 c =
     let r = c .before .before .le-i32-at2 in
     casts (r .result) (record { sfits = r .ok }) (c .if5 .left)
 
@@ -111,6 +118,6 @@ read-counts-spec =
     (λ c κs. search needs)
     returns-4
     returns-5
-    cast-t8
-    cast-t9
+    cast-t11
+    cast-t12
     returns-6)

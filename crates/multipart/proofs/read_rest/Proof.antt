@@ -39,7 +39,7 @@ returns : tie.Need-returns
 returns c =
     let j = c .before .before .before in
     unread _ _ _ _ _ _ _ _ tt
-    (rest-refused (e1 j .args .z) (e1 j .args .m) (e1 j .args .s .now) _ _ _ _ (e1 j .pre .passes) _ (told j (Short (c .before .at .given .0 .0)) (c .before .at .given .1)))
+    (rest-refused (e1 j .args .z) (e1 j .args .m) (e1 j .args .s .now) _ _ _ _ (e1 j .pre .passes) _ (told j (Short (c .before .at .given .0 .0) (c .before .at .given .0 .1 .0)) (c .before .at .given .1)))
 
 returns-2 : tie.Need-returns-2
 returns-2 c =

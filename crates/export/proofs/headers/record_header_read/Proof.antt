@@ -9,4 +9,4 @@ record-header-read-spec =
     (tie.spec
     (λ c. search needs) (λ c κs. search needs) (λ c. search needs) (λ c κs. search needs)
     (λ c. rw (c .none .ensures, c .before .before .a .given .1))
-    (λ c. rw (c .with-number .ensures, c .before .before .a2 .given .1)))
+    (λ c. rw (c .with-numbers .ensures, c .before .before .a2 .given .1)))

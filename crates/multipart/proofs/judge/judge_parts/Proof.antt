@@ -63,7 +63,7 @@ judge-parts-spec =
     loop-holds
     (λ c. omega arith) (λ c κs. omega arith) (λ c. search needs)
     returns
-    (λ c. search needs) (λ c. search needs) (λ c. omega arith) (λ c. omega arith) (λ c. omega arith) (λ c. omega arith)
+    (λ c. search needs) (λ c. search needs) (λ c. omega arith) (λ c. omega arith) (λ c. omega arith)
     returns-2
     (λ c. omega arith) (λ c. omega arith) (λ c. omega arith) (λ c. omega arith) (λ c. omega arith)
     loop-again

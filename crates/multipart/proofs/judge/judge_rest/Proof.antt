@@ -88,7 +88,7 @@ judge-measure-requires-2 c κs = (z-on c .1 .1, omega (arith, pairs-inside (c .b
 returns-2 : tie.Need-returns-2
 returns-2 c =
     let p = c .before .before .before in
-    parts-stop (e1 p .args .z) (e1 p .args .m) (s1 p) (long p) (starts p) _ (parts-told p (Short (c .before .at .given .0 .0)) (c .before .at .given .1))
+    parts-stop (e1 p .args .z) (e1 p .args .m) (s1 p) (long p) (starts p) _ (parts-told p (Short (c .before .at .given .0 .0) (c .before .at .given .0 .1 .0)) (c .before .at .given .1))
 
 returns-3 : tie.Need-returns-3
 returns-3 c =
@@ -99,7 +99,7 @@ returns-4 : tie.Need-returns-4
 returns-4 c =
     let z = c .before .before .before in
     let p = z .before .before .before .before in
-    z-stop (e1 p .args .z) (e1 p .args .m) (s1 p) (long p) (starts p) (parts-on (z .before) .0) _ (z-told z (Short (c .before .at3 .given .0 .0)) (c .before .at3 .given .1))
+    z-stop (e1 p .args .z) (e1 p .args .m) (s1 p) (long p) (starts p) (parts-on (z .before) .0) _ (z-told z (Short (c .before .at3 .given .0 .0) (c .before .at3 .given .0 .1 .0)) (c .before .at3 .given .1))
 
 returns-5 : tie.Need-returns-5
 returns-5 c =
@@ -112,7 +112,7 @@ returns-6 c =
     let m = c .before .before .before in
     let z = m .before .before .before .before in
     let p = z .before .before .before .before in
-    m-stop (e1 p .args .z) (e1 p .args .m) (s1 p) (long p) (starts p) (parts-on (z .before) .0) (z-on (m .before) .0) _ (m-told m (Short (c .before .at5 .given .0 .0)) (c .before .at5 .given .1))
+    m-stop (e1 p .args .z) (e1 p .args .m) (s1 p) (long p) (starts p) (parts-on (z .before) .0) (z-on (m .before) .0) _ (m-told m (Short (c .before .at5 .given .0 .0) (c .before .at5 .given .0 .1 .0)) (c .before .at5 .given .1))
 
 returns-7 : tie.Need-returns-7
 returns-7 c =

@@ -10,7 +10,8 @@ use Rattle.format.proofs.SignLaws.{back}
 use Rattle.multipart.specs.declared.CountsAnswer.{CountsAnswer}
 use Rattle.multipart.specs.declared.CountsAnswer.the-variants as CountsIs
 use Rattle.multipart.specs.Answers.{saidCounts, countsOf}
-use Rattle.multipart.proofs.NearLaws.{offset, counts-offset}
+use Rattle.format.proofs.Placed.{offset}
+use Rattle.multipart.proofs.Placed.{counts-offset}
 use Rattle.record.specs.declared.sizes.Sized.{Sized}
 use Rattle.record.specs.declared.sizes.Sized.the-variants as SizedIs
 use Rattle.record.specs.Steps.{two, Sizes}
@@ -35,13 +36,13 @@ counted c = told (c .before .before) (CountsIs.Are (c .p .given .0 .0) (c .p .gi
 sized : (c : tie.After-judge-size) (r : Sized) → c .judge-size .result ≡ r → Sizes (e1 (c .before .before .before .before) .args .k) (e1 (c .before .before .before .before) .args .size) (two (c .before .before .p .given .0 .0) (c .before .before .p .given .0 .1 .0)) r
 sized c r e = subst (λ (x : Sized). Sizes (e1 (c .before .before .before .before) .args .k) (e1 (c .before .before .before .before) .args .size) (two (c .before .before .p .given .0 .0) (c .before .before .p .given .0 .1 .0)) x) e (c .judge-size .ensures)
 
-add-t16 : tie.Need-add-t16
-add-t16 c =
-    let r = c .before .before .before in
-    record { fits = omega (arith, near r (CountsIs.Short (c .before .at .given .0 .0)) (c .before .at .given .1), e1 r .good .1 .1 .1 .1 .0 .1) }
-
 add-t17 : tie.Need-add-t17
 add-t17 c =
+    let r = c .before .before .before in
+    record { fits = omega (arith, near r (CountsIs.Short (c .before .at .given .0 .0) (c .before .at .given .0 .1 .0)) (c .before .at .given .1), e1 r .good .1 .1 .1 .1 .0 .1) }
+
+add-t18 : tie.Need-add-t18
+add-t18 c =
     let r = c .before .before .before in
     record { fits = omega (arith, near r (CountsIs.Size (c .before .at2 .given .0 .0)) (c .before .at2 .given .1), e1 r .good .1 .1 .1 .1 .0 .1) }
 
@@ -50,7 +51,7 @@ returns c =
     let r = c .before .before .before in
     let a = e1 r in
     answered _ (a .args .k .z) (a .args .b .now) (a .args .counts .now) (a .args .xy .now) (a .args .zs .now) (a .args .ms .now) _
-    (counts-short (a .args .code) (a .args .k) (a .args .size) (a .args .b .now) (length (a .args .counts .now)) (length (a .args .xy .now)) (length (a .args .zs .now)) (length (a .args .ms .now)) _ (told r (CountsIs.Short (c .before .at .given .0 .0)) (c .before .at .given .1)))
+    (counts-short (a .args .code) (a .args .k) (a .args .size) (a .args .b .now) (length (a .args .counts .now)) (length (a .args .xy .now)) (length (a .args .zs .now)) (length (a .args .ms .now)) _ _ (told r (CountsIs.Short (c .before .at .given .0 .0) (c .before .at .given .0 .1 .0)) (c .before .at .given .1)))
 
 returns-2 : tie.Need-returns-2
 returns-2 c =
@@ -92,9 +93,9 @@ read-parts-spec =
     tie.close
     (tie.spec
     (λ c κs. search needs) (λ c. search needs)
-    add-t16
-    (λ c. search needs)
     add-t17
+    (λ c. search needs)
+    add-t18
     (λ c. search needs) (λ c κs. search needs) (λ c. search needs) (λ c κs. search needs) (λ c. search needs)
     (λ c κs. search needs) (λ c. search needs)
     returns

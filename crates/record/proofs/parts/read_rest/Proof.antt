@@ -9,7 +9,8 @@ use Rattle.format.proofs.SignLaws.{back}
 use Rattle.multipart.specs.declared.BodyAnswer.{BodyAnswer}
 use Rattle.multipart.specs.declared.BodyAnswer.the-variants as BodyIs
 use Rattle.multipart.specs.Answers.{saidBody}
-use Rattle.multipart.proofs.NearLaws.{offset, body-offset}
+use Rattle.format.proofs.Placed.{offset}
+use Rattle.multipart.proofs.Placed.{body-offset}
 use Rattle.record.proofs.PartsLaws.{rest-reads}
 use Rattle.record.proofs.parts.read_rest.Statement.{statement}
 use Rattle.record.proofs.parts.read_rest.Tie as tie
@@ -22,13 +23,13 @@ e1 c = c .before .before .before .before .before .before .before .before .before
 near : (c : tie.After-read-body) (r : BodyAnswer) → c .read-body .result ≡ r → offset (saidBody r) ≤ length (e1 c .args .b .now)
 near c r e = body-offset _ _ _ _ _ _ _ (saidBody r) (ap saidBody (sym e) ∙ c .read-body .ensures .says)
 
-add-t24 : tie.Need-add-t24
-add-t24 c =
-    let r = c .before .before .before .before .before .before .before .before .before .before .before in
-    record { fits = omega (arith, near r (BodyIs.Short (c .before .at .given .0 .0)) (c .before .at .given .1), e1 r .good .1 .1 .1 .0 .1) }
-
 add-t25 : tie.Need-add-t25
 add-t25 c =
+    let r = c .before .before .before .before .before .before .before .before .before .before .before in
+    record { fits = omega (arith, near r (BodyIs.Short (c .before .at .given .0 .0) (c .before .at .given .0 .1 .0)) (c .before .at .given .1), e1 r .good .1 .1 .1 .0 .1) }
+
+add-t26 : tie.Need-add-t26
+add-t26 c =
     let r = c .before .before .before .before .before .before .before .before .before .before .before in
     record { fits = omega (arith, near r (BodyIs.Size (c .before .at2 .given .0 .0)) (c .before .at2 .given .1), e1 r .good .1 .1 .1 .0 .1) }
 
@@ -36,7 +37,7 @@ returns : tie.Need-returns
 returns c =
     let r = c .before .before .before .before .before .before .before .before .before .before .before in
     let a = e1 r in
-    rest-reads (a .args .code) (a .args .z) (a .args .m) (a .args .b .now) (a .args .counts .now) (a .args .xy .now) (a .args .zs .now) (a .args .ms .now) _ _ _ _ _ (BodyIs.Short (c .before .at .given .0 .0)) (c .before .at .given .1) (r .read-body .ensures)
+    rest-reads (a .args .code) (a .args .z) (a .args .m) (a .args .b .now) (a .args .counts .now) (a .args .xy .now) (a .args .zs .now) (a .args .ms .now) _ _ _ _ _ (BodyIs.Short (c .before .at .given .0 .0) (c .before .at .given .0 .1 .0)) (c .before .at .given .1) (r .read-body .ensures)
 
 returns-2 : tie.Need-returns-2
 returns-2 c =
@@ -62,9 +63,9 @@ read-rest-spec =
     tie.close
     (tie.spec
     (λ c κs. search needs) (λ c. search needs)
-    add-t24
-    (λ c. search needs)
     add-t25
+    (λ c. search needs)
+    add-t26
     (λ c. search needs) (λ c. search needs) (λ c. search needs) (λ c. search needs) (λ c. search needs)
     (λ c. search needs)
     returns

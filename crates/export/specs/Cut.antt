@@ -1,0 +1,50 @@
+-- What a caller may conclude from refusal 1, whichever call gives it: where the bytes end, and how many of the field's bytes are present.
+use mathlib.Core.Path.{_≡_}
+use mathlib.Core.Bool.{Bool}
+use mathlib.Core.List.{List}
+use Prim.Native.Nat.{ℕ, _+_, _<_}
+use lib.ListN.{length}
+use Rattle.format.specs.declared.units.Bytes.{Bytes}
+use Rattle.header.specs.Entries.{twoOf, recordHeader, shapeIndex}
+use Rattle.header.specs.Reading.{headerOf, headerWidth}
+use Rattle.multipart.specs.Answers.{countsOf}
+use Rattle.multipart.specs.Body.{bodyOf, bodyWidth}
+use Rattle.record.specs.declared.Wanted.{Wanted}
+use Rattle.record.specs.Reading.{recordOf, contentWidth}
+use Rattle.export.specs.declared.refusals.Refusal.{Refusal}
+use Rattle.export.specs.Refusals.{refusalOf}
+
+-- the calls that read fields of lent bytes, with what each is asked beside the bytes; of lent stores, their lengths
+pub data Call : Type 0 where
+  readHeader : Call
+  readRecordHeader : Call
+  readIndexEntry : Call
+  readCounts : Call
+  readBody : (z m : Bool) (counts xy zs ms : ℕ) → Call
+  readRecord : (wanted : Wanted) (size : Bytes) (counts xy zs ms : ℕ) → Call
+
+-- its refusal of these bytes
+abbrev pub refusalFrom : Call → List ℕ → Refusal
+refusalFrom readHeader s = refusalOf (headerOf s)
+refusalFrom readRecordHeader s = refusalOf (twoOf recordHeader s)
+refusalFrom readIndexEntry s = refusalOf (twoOf shapeIndex s)
+refusalFrom readCounts s = refusalOf (countsOf s)
+refusalFrom (readBody z m counts xy zs ms) s = refusalOf (bodyOf z m s counts xy zs ms)
+refusalFrom (readRecord wanted size counts xy zs ms) s = refusalOf (recordOf wanted size s counts xy zs ms)
+
+-- how wide the field at a place of them is
+abbrev pub widthAt : Call → List ℕ → ℕ → ℕ
+widthAt readHeader s at = headerWidth at
+widthAt readRecordHeader s at = 4
+widthAt readIndexEntry s at = 4
+widthAt readCounts s at = bodyWidth s at
+widthAt (readBody z m counts xy zs ms) s at = bodyWidth s at
+widthAt (readRecord wanted size counts xy zs ms) s at = contentWidth s at
+
+-- the bytes end inside the field that the refusal names: what it counts are the last of the bytes, and fewer than the field has
+pub record EndInside (width : ℕ → ℕ) (s : List ℕ) (r : Refusal) : Type 0 where
+  pub ends : r .first + r .second ≡ length s
+  pub fewer : r .second < width (r .first)
+
+abbrev pub CutTells : Type 0
+CutTells = (call : Call) (s : List ℕ) → refusalFrom call s .number ≡ 1 → EndInside (widthAt call s) s (refusalFrom call s)
