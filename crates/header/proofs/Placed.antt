@@ -1,18 +1,15 @@
 -- The readers' refusals that name a place lie within the bytes, each field as wide as the definitions have it.
 use mathlib.Core.Path.{refl}
 use mathlib.Core.List.{List}
-use Prim.Native.Nat.{ℕ, _≤_, zero-le}
+use Prim.Native.Nat.{ℕ, zero-le}
 use native.Mathlib.Omega.{arith}
 use lib.Dec.{lit<}
 use lib.IntN.{ℤ}
-use lib.ListN.{length}
 use lib.Signed.{nonNeg}
 use borrow.Author.Tests.{le-leb, ne-eqb}
 use Rattle.format.specs.Kinds.{known}
 use Rattle.format.specs.Numbers.{beI32, leI32}
-use Rattle.format.specs.Said.{Said, gives}
 use Rattle.format.proofs.Placed.{Placed, elsewhere, size-placed, test-placed, field-placed, fields-placed}
-use Rattle.header.specs.declared.Header.{Header}
 use Rattle.header.specs.Entries.{twoOf}
 use Rattle.header.specs.Reading.{is9994, headerOf, headerWidth}
 

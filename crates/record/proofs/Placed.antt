@@ -1,20 +1,20 @@
 -- The refusals of reading a record that name a place lie within its content: those of a body are the body's, moved by the kind's field.
-use mathlib.Core.Path.{_≡_, refl, ap, _∙_}
+use mathlib.Core.Path.{_≡_, refl, ap}
 use mathlib.Core.Bool.{Bool, true, false, cond, _&&_, _||_, not}
 use mathlib.Core.List.{List, [], _∷_, _++_}
 use mathlib.Core.Option.{Option, none, some}
-use Prim.Native.Nat.{ℕ, _+_, _*_, _-_, _≤_, _<_, zero-le}
+use Prim.Native.Nat.{ℕ, _+_, _-_, _≤_, _<_, zero-le}
 use native.Mathlib.Omega.{arith}
 use lib.Dec.{eqb, leb, lit<}
 use lib.IntN.{ℤ, pos, _-ℤ_}
 use lib.ListN.{length, drop, length-drop}
-use borrow.Author.Tests.{le-leb, eq-eqb}
+use borrow.Author.Tests.{le-leb}
 use Rattle.format.specs.declared.kinds.Kind.{Kind}
 use Rattle.format.specs.declared.units.Bytes.{Bytes}
 use Rattle.format.specs.Kinds.{known, kindAt, kindOr}
 use Rattle.format.specs.Lengths.{Form, nothing, onePoint, parts, contentWords, formAt}
 use Rattle.format.specs.Order.{first}
-use Rattle.format.specs.Said.{Said, gives, refuses, wrongSize}
+use Rattle.format.specs.Said.{Said, gives, refuses}
 use Rattle.format.specs.Units.{sameInt, inI32}
 use Rattle.format.proofs.OrderLaws.{first-append}
 use Rattle.format.proofs.Placed.{ValuesPlaced, Placed, elsewhere, size-placed, test-placed, field-placed, fields-placed}

@@ -93,7 +93,7 @@ impl fmt::Display for Error {
                     1 => "1 of its bytes is".to_string(),
                     _ => format!("{present} of its bytes are"),
                 };
-                let all = at.saturating_add(present);
+                let all = at.saturating_add(*present);
                 write!(
                     f,
                     "short: the bytes end inside the field at offset {at}: {there} there, {all} in all"

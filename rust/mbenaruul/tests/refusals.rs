@@ -1,11 +1,12 @@
-//! Every refusal, asked for through the safe calls, with its number and values.
+//! Every refusal but the first, which is in cut.rs, asked for through the safe calls, with its number
+//! and values.
 
 mod common;
 
 use common::{content, header};
 use mbenaruul::{
     check_pair, close_points_if_not_already, is_part_closed, read_header, read_index_entry,
-    read_record, read_record_header, ring_type_from_points_ordering, Bytes, Error, Tables, Writer,
+    read_record, ring_type_from_points_ordering, Bytes, Error, Tables, Writer,
 };
 use std::collections::HashSet;
 
