@@ -6,15 +6,14 @@ use Prim.Native.Nat.{ℕ}
 use lib.Ieee.{Float}
 use lib.IntN.{ℤ, pos}
 use lib.ListN.{length, drop}
-use lib.Seq.{sets}
 use Rattle.format.specs.declared.units.Bytes.{Bytes}
 use Rattle.format.specs.Kinds.{kindAt, kindOr}
-use Rattle.format.specs.Said.{Said, gives, refuses}
+use Rattle.format.specs.Said.{Said}
 use Rattle.multipart.specs.declared.Body.{Body}
 use Rattle.multipart.specs.Body.{noRange, countsIn, xyIn, zIn, mIn}
 use Rattle.record.specs.declared.Point.{Point}
 use Rattle.record.specs.declared.Wanted.{Wanted}
-use Rattle.record.specs.Reading.{Shaped, nullShape, pointShape, partsShape, codeIn, recordOf}
+use Rattle.record.specs.Reading.{Shaped, nullShape, pointShape, partsShape, codeIn, recordOf, stored}
 use Rattle.writer.specs.Boxes.{zeroDouble}
 use Rattle.export.specs.declared.records.RecordRead.{RecordRead}
 use Rattle.export.specs.declared.refusals.Refusal.{Refusal}
@@ -52,13 +51,6 @@ recordRead said = shapeRead (refusalOf said) (orElse nullShape said)
 
 abbrev pub asBytes : ℤ → Bytes
 asBytes size = record { 0 = size }
-
--- what goes into a store: only a shape with parts has any
-abbrev pub stored : {A : Type 0} → Said Shaped → List A → (Bool → List A) → List A
-stored (gives nullShape) store values = store
-stored (gives (pointShape code point)) store values = store
-stored (gives (partsShape code m body)) store values = sets store 0 (values m)
-stored (refuses n said) store values = store
 
 -- what reading says, with these stores
 abbrev pub saidOf : Wanted → ℤ → List ℕ → List ℕ → List Float → List Float → List Float → Said Shaped

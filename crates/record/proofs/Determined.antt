@@ -40,8 +40,8 @@ one-record = told-one saidRecord tellRecord back
     back (Is.Room p n) = refl
     back (Is.NotTaken code) = refl
 
-one-store : {A : Type 0} (a b : RecordAnswer) (before x y : List A) (values : Bool → List A) → a ≡ b → x ≡ stored a before values → y ≡ stored b before values → x ≡ y
-one-store a b before x y values e p q = p ∙ (ap (λ (r : RecordAnswer). stored r before values) e ∙ sym q)
+one-store : {A : Type 0} (a b : RecordAnswer) (before x y : List A) (values : Bool → List A) → a ≡ b → x ≡ stored (saidRecord a) before values → y ≡ stored (saidRecord b) before values → x ≡ y
+one-store a b before x y values e p q = p ∙ (ap (λ (r : RecordAnswer). stored (saidRecord r) before values) e ∙ sym q)
 
 module _ (wanted : Wanted) (size : Bytes) (s counts : List ℕ) (xy zs ms : List Float) (a b : RecordAnswer) (counts₁ counts₂ : List ℕ) (xy₁ xy₂ zs₁ zs₂ ms₁ ms₂ : List Float) where
   pub one-result : ReadsRecord wanted size s counts xy zs ms a counts₁ xy₁ zs₁ ms₁ → ReadsRecord wanted size s counts xy zs ms b counts₂ xy₂ zs₂ ms₂ → (a ≡ b) × (counts₁ ≡ counts₂) × (xy₁ ≡ xy₂) × (zs₁ ≡ zs₂) × (ms₁ ≡ ms₂)

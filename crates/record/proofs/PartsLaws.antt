@@ -8,7 +8,7 @@ use lib.IntN.{ℤ}
 use lib.ListN.{length}
 use Rattle.format.specs.declared.kinds.Kind.{Kind}
 use Rattle.format.specs.declared.units.Bytes.{Bytes}
-use Rattle.format.specs.Said.{Said, gives, wrongSize}
+use Rattle.format.specs.Said.{Said, gives, refuses, wrongSize}
 use Rattle.multipart.specs.declared.Body.{Body}
 use Rattle.multipart.specs.declared.BodyAnswer.{BodyAnswer}
 use Rattle.multipart.specs.declared.BodyAnswer.the-variants as BodyIs
@@ -16,7 +16,7 @@ use Rattle.multipart.specs.declared.CountsAnswer.the-variants as CountsIs
 use Rattle.multipart.specs.Answers.{Two, saidCounts, countsOf, saidBody, ReadsBody}
 use Rattle.record.specs.declared.RecordAnswer.{RecordAnswer}
 use Rattle.record.specs.declared.RecordAnswer.the-variants as Is
-use Rattle.record.specs.Reading.{Shaped, partsShape, moved, andThen, hasM, sizeRight, saidRecord, stored}
+use Rattle.record.specs.Reading.{Shaped, nullShape, pointShape, partsShape, moved, andThen, hasM, sizeRight, saidRecord, stored}
 use Rattle.record.specs.Steps.{storesNone, Answers, Reads, restFrom, partsFrom, two}
 
 -- what the record answers where the body answers so
@@ -48,25 +48,20 @@ module _ (code : ℤ) (z m : Bool) (b counts : List ℕ) (xy zs ms : List Float)
 
 -- ---- an answer that stores nothing
 
-pub stored-none : {A : Type 0} (r : RecordAnswer) (store : List A) (values : Bool → List A) → storesNone r ≡ true → store ≡ stored r store values
-stored-none Is.Null store values e = refl
-stored-none (Is.Point code p) store values e = refl
-stored-none (Is.Parts code m body) store values e = cc
-stored-none (Is.Short at present) store values e = refl
-stored-none (Is.Size at) store values e = refl
-stored-none (Is.Unknown code) store values e = refl
-stored-none (Is.Mismatch wanted found) store values e = refl
-stored-none (Is.Room p n) store values e = refl
-stored-none (Is.NotTaken code) store values e = refl
+pub stored-none : {A : Type 0} (said : Said Shaped) (store : List A) (values : Bool → List A) → storesNone said ≡ true → store ≡ stored said store values
+stored-none (gives nullShape) store values e = refl
+stored-none (gives (pointShape code p)) store values e = refl
+stored-none (gives (partsShape code m body)) store values e = cc
+stored-none (refuses n vs) store values e = refl
 
 pub answered : (said : Said Shaped) (z : Bool) (b counts : List ℕ) (xy zs ms : List Float) (r : RecordAnswer) → Answers said r → Reads said z b counts xy zs ms r counts xy zs ms
 answered said z b counts xy zs ms r h =
     record {
       says = h .says;
-      counts-are = stored-none r counts _ (h .none);
-      xy-are = stored-none r xy _ (h .none);
-      z-are = stored-none r zs _ (h .none);
-      m-are = stored-none r ms _ (h .none);
+      counts-are = stored-none (saidRecord r) counts _ (h .none);
+      xy-are = stored-none (saidRecord r) xy _ (h .none);
+      z-are = stored-none (saidRecord r) zs _ (h .none);
+      m-are = stored-none (saidRecord r) ms _ (h .none);
     }
 
 -- ---- a body whose size is not judged yet

@@ -22,7 +22,7 @@ use Rattle.multipart.specs.Answers.{Two, countsOf}
 use Rattle.record.specs.declared.Wanted.{Wanted}
 use Rattle.record.specs.declared.RecordAnswer.{RecordAnswer}
 use Rattle.record.specs.declared.RecordAnswer.the-variants as Is
-use Rattle.record.specs.Reading.{Shaped, partsShape, codeIn, frontTests, pointOf, hasM, sizeRight, partsOf, byForm, recordOf, stored, ReadsRecord}
+use Rattle.record.specs.Reading.{Shaped, partsShape, codeIn, frontTests, pointOf, hasM, sizeRight, partsOf, byForm, recordOf, saidRecord, stored, ReadsRecord}
 use Rattle.record.specs.Steps.{Passes, Refuses, Takes, Answers, Reads, restFrom, partsFrom}
 use Rattle.record.proofs.PartsLaws.{stored-none}
 
@@ -62,10 +62,10 @@ module _ (k : Kind) (size : Bytes) (s counts : List ℕ) (xy zs ms : List Float)
   plain o r e h =
       record {
         says = h .says ∙ ap said (sym e);
-        counts-are = stored-none r counts _ (h .none);
-        xy-are = stored-none r xy _ (h .none);
-        z-are = stored-none r zs _ (h .none);
-        m-are = stored-none r ms _ (h .none);
+        counts-are = stored-none (saidRecord r) counts _ (h .none);
+        xy-are = stored-none (saidRecord r) xy _ (h .none);
+        z-are = stored-none (saidRecord r) zs _ (h .none);
+        m-are = stored-none (saidRecord r) ms _ (h .none);
       }
 
   pub null-shape : formOf k ≡ some nothing → Shape Is.Null counts xy zs ms
@@ -107,10 +107,10 @@ module _ (wanted : Wanted) (size : Bytes) (s counts : List ℕ) (xy zs ms : List
   refused r h =
       record {
         says = h .says _;
-        counts-are = stored-none r counts _ (h .none);
-        xy-are = stored-none r xy _ (h .none);
-        z-are = stored-none r zs _ (h .none);
-        m-are = stored-none r ms _ (h .none);
+        counts-are = stored-none (saidRecord r) counts _ (h .none);
+        xy-are = stored-none (saidRecord r) xy _ (h .none);
+        z-are = stored-none (saidRecord r) zs _ (h .none);
+        m-are = stored-none (saidRecord r) ms _ (h .none);
       }
 
   module _ (k : Kind) (l : Lengths) (p : Passes (frontTests wanted size s)) (t : Takes size s k l) where
@@ -120,6 +120,6 @@ module _ (wanted : Wanted) (size : Bytes) (s counts : List ℕ) (xy zs ms : List
           says = h .says ∙ by-kind wanted size s k _ _ _ _ p (t .kind-is);
           counts-are = h .counts-are;
           xy-are = h .xy-are;
-          z-are = h .z-are ∙ ap (λ (o : Option Kind). stored r zs (λ m. zIn (kindOr o .z) (drop 4 s))) (sym (t .kind-is));
-          m-are = h .m-are ∙ ap (λ (o : Option Kind). stored r ms (λ m. mIn (kindOr o .z) m (drop 4 s))) (sym (t .kind-is));
+          z-are = h .z-are ∙ ap (λ (o : Option Kind). stored (saidRecord r) zs (λ m. zIn (kindOr o .z) (drop 4 s))) (sym (t .kind-is));
+          m-are = h .m-are ∙ ap (λ (o : Option Kind). stored (saidRecord r) ms (λ m. mIn (kindOr o .z) m (drop 4 s))) (sym (t .kind-is));
         }

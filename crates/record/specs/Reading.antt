@@ -153,20 +153,15 @@ saidRecord (Is.Room p n) = room p n
 saidRecord (Is.NotTaken code) = notTaken code
 
 -- what goes into a store: only a shape with parts has any
-abbrev pub stored : {A : Type 0} → RecordAnswer → List A → (Bool → List A) → List A
-stored Is.Null store values = store
-stored (Is.Point code p) store values = store
-stored (Is.Parts code m body) store values = sets store 0 (values m)
-stored (Is.Short at present) store values = store
-stored (Is.Size at) store values = store
-stored (Is.Unknown code) store values = store
-stored (Is.Mismatch wanted found) store values = store
-stored (Is.Room p n) store values = store
-stored (Is.NotTaken code) store values = store
+abbrev pub stored : {A : Type 0} → Said Shaped → List A → (Bool → List A) → List A
+stored (gives nullShape) store values = store
+stored (gives (pointShape code p)) store values = store
+stored (gives (partsShape code m body)) store values = sets store 0 (values m)
+stored (refuses n vs) store values = store
 
 pub record ReadsRecord (wanted : Wanted) (size : Bytes) (s counts : List ℕ) (xy zs ms : List Float) (r : RecordAnswer) (counts′ : List ℕ) (xy′ zs′ ms′ : List Float) : Type 0 where
   pub says : saidRecord r ≡ recordOf wanted size s (length counts) (length xy) (length zs) (length ms)
-  pub counts-are : counts′ ≡ stored r counts (λ m. countsIn (drop 4 s))
-  pub xy-are : xy′ ≡ stored r xy (λ m. xyIn (drop 4 s))
-  pub z-are : zs′ ≡ stored r zs (λ m. zIn (kindOr (kindAt (codeIn s)) .z) (drop 4 s))
-  pub m-are : ms′ ≡ stored r ms (λ m. mIn (kindOr (kindAt (codeIn s)) .z) m (drop 4 s))
+  pub counts-are : counts′ ≡ stored (saidRecord r) counts (λ m. countsIn (drop 4 s))
+  pub xy-are : xy′ ≡ stored (saidRecord r) xy (λ m. xyIn (drop 4 s))
+  pub z-are : zs′ ≡ stored (saidRecord r) zs (λ m. zIn (kindOr (kindAt (codeIn s)) .z) (drop 4 s))
+  pub m-are : ms′ ≡ stored (saidRecord r) ms (λ m. mIn (kindOr (kindAt (codeIn s)) .z) m (drop 4 s))

@@ -14,19 +14,18 @@ use Rattle.format.specs.Kinds.{kindAt}
 use Rattle.format.specs.Lengths.{lengthsOf}
 use Rattle.format.specs.Numbers.{leF64}
 use Rattle.format.specs.Order.{first}
-use Rattle.format.specs.Said.{Said, gives, wrongSize}
+use Rattle.format.specs.Said.{Said, gives, refuses, wrongSize}
 use Rattle.format.specs.Units.{inI32}
 use Rattle.multipart.specs.Answers.{Two, countsOf}
 use Rattle.multipart.specs.Body.{bodyOf, countsIn, xyIn, zIn, mIn}
 use Rattle.record.specs.declared.RecordAnswer.{RecordAnswer}
-use Rattle.record.specs.declared.RecordAnswer.the-variants as Is
 use Rattle.record.specs.declared.front.Judged.{Judged}
 use Rattle.record.specs.declared.front.Judged.the-variants as JudgedIs
 use Rattle.record.specs.declared.front.Front.{Front}
 use Rattle.record.specs.declared.front.Front.the-variants as FrontIs
 use Rattle.record.specs.declared.sizes.Sized.{Sized}
 use Rattle.record.specs.declared.sizes.Sized.the-variants as SizedIs
-use Rattle.record.specs.Reading.{Shaped, partsShape, codeIn, moved, andThen, hasM, sizeRight, saidRecord, stored}
+use Rattle.record.specs.Reading.{Shaped, nullShape, pointShape, partsShape, codeIn, moved, andThen, hasM, sizeRight, saidRecord, stored}
 
 -- ---- the tests in front of the shape
 
@@ -35,21 +34,16 @@ abbrev pub Passes : List (Bool × Said Shaped) → Type 0
 Passes ts = (a : Said Shaped) → first ts a ≡ a
 
 -- an answer that puts nothing into a store
-abbrev pub storesNone : RecordAnswer → Bool
-storesNone Is.Null = true
-storesNone (Is.Point code p) = true
-storesNone (Is.Parts code m body) = false
-storesNone (Is.Short at present) = true
-storesNone (Is.Size at) = true
-storesNone (Is.Unknown code) = true
-storesNone (Is.Mismatch wanted found) = true
-storesNone (Is.Room p n) = true
-storesNone (Is.NotTaken code) = true
+abbrev pub storesNone : Said Shaped → Bool
+storesNone (gives nullShape) = true
+storesNone (gives (pointShape code p)) = true
+storesNone (gives (partsShape code m body)) = false
+storesNone (refuses n vs) = true
 
 -- the first that fails gives this answer, whatever follows them
 pub record Refuses (ts : List (Bool × Said Shaped)) (r : RecordAnswer) : Type 0 where
   pub says : (a : Said Shaped) → saidRecord r ≡ first ts a
-  pub none : storesNone r ≡ true
+  pub none : storesNone (saidRecord r) ≡ true
 
 abbrev pub Judges : List (Bool × Said Shaped) → Judged → Type 0
 Judges ts JudgedIs.On = Passes ts
@@ -90,15 +84,15 @@ doubleIf flag at s = cond flag (leF64 at s) (ofInt binary64 (pos 0))
 -- an answer that says this and stores nothing
 pub record Answers (said : Said Shaped) (r : RecordAnswer) : Type 0 where
   pub says : saidRecord r ≡ said
-  pub none : storesNone r ≡ true
+  pub none : storesNone (saidRecord r) ≡ true
 
 -- an answer that says this, with what the stores then hold of a body
 pub record Reads (said : Said Shaped) (z : Bool) (b counts : List ℕ) (xy zs ms : List Float) (r : RecordAnswer) (counts′ : List ℕ) (xy′ zs′ ms′ : List Float) : Type 0 where
   pub says : saidRecord r ≡ said
-  pub counts-are : counts′ ≡ stored r counts (λ m. countsIn b)
-  pub xy-are : xy′ ≡ stored r xy (λ m. xyIn b)
-  pub z-are : zs′ ≡ stored r zs (λ m. zIn z b)
-  pub m-are : ms′ ≡ stored r ms (λ m. mIn z m b)
+  pub counts-are : counts′ ≡ stored (saidRecord r) counts (λ m. countsIn b)
+  pub xy-are : xy′ ≡ stored (saidRecord r) xy (λ m. xyIn b)
+  pub z-are : zs′ ≡ stored (saidRecord r) zs (λ m. zIn z b)
+  pub m-are : ms′ ≡ stored (saidRecord r) ms (λ m. mIn z m b)
 
 -- a body whose size is judged
 unfoldable pub restFrom : ℤ → Bool → Bool → List ℕ → ℕ → ℕ → ℕ → ℕ → Said Shaped
