@@ -11,7 +11,7 @@ use lib.ListN.{length, drop}
 use borrow.Author.Tests.{le-leb, leb-true, leb-false}
 use Rattle.format.specs.Bytes.{field}
 use Rattle.format.specs.Order.{first, fieldsFrom}
-use Rattle.format.specs.Said.{Said, gives, refuses, short, Numbered}
+use Rattle.format.specs.Said.{Said, gives, refuses, short, unlessRefused, Numbered}
 use Rattle.format.proofs.ByteLaws.{length-cut}
 
 -- ---- of fields of w bytes each, from a place on: the one that l bytes end inside
@@ -173,6 +173,11 @@ module _ {A : Type 0} where
 abbrev pub isRefusal : {A : Type 0} → Said A → Bool
 isRefusal (gives a) = false
 isRefusal (refuses n vs) = true
+
+-- a refusal leaves a store as it was
+pub kept : {A B : Type 0} (said : Said A) → T (isRefusal said) → (before after : B) → before ≡ unlessRefused said before after
+kept (gives a) t before after = absurd t
+kept (refuses n vs) t before after = refl
 
 -- each test has a refusal beside it
 abbrev pub refusing : {A : Type 0} → List (Bool × Said A) → Bool

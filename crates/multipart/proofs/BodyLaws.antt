@@ -1,5 +1,5 @@
 -- Laws of a body: where its values stand and that they fit, and what is said of it, by the tests that pass and the one that fails.
-use mathlib.Core.Path.{_≡_, refl, sym, ap, _∙_}
+use mathlib.Core.Path.{_≡_, sym, ap, _∙_}
 use mathlib.Core.Bool.{Bool, true, false, cond, not, _&&_, _||_}
 use mathlib.Core.List.{List, [], _++_, map}
 use Prim.Native.Nat.{ℕ, _+_, _*_, _≤_}
@@ -12,10 +12,9 @@ use borrow.Author.Tests.{leb-true}
 use Rattle.format.specs.Numbers.{leI32, leF64, doublesAt}
 use Rattle.format.specs.Order.{first}
 use Rattle.format.specs.Said.{Said, gives, room}
-use Rattle.format.proofs.OrderLaws.{first-append, isRefusal, both-true}
+use Rattle.format.proofs.OrderLaws.{first-append, isRefusal, kept, both-true}
 use Rattle.multipart.specs.declared.Body.{Body}
 use Rattle.multipart.specs.declared.BodyAnswer.{BodyAnswer}
-use Rattle.multipart.specs.declared.BodyAnswer.the-variants as Is
 use Rattle.multipart.specs.Answers.{saidBody, ReadsBody}
 use Rattle.multipart.specs.Body.{partsIn, countsIn, pointsIn, pairsAt, zAt, mAt, raised, rangeAt, noRange, xyIn, zIn, mIn, bodyIn, countTests, restTests, hasRoom, roomTests, bodyOf}
 use Rattle.multipart.specs.Parts.{countOf}
@@ -153,7 +152,11 @@ module _ (z m : Bool) (s : List ℕ) (counts xy zs ms : ℕ) where
 -- a refusal leaves the stores as they were
 module _ (z m : Bool) (s counts : List ℕ) (xy zs ms : List Float) where
   pub unread : (r : BodyAnswer) → T (isRefusal (saidBody r)) → saidBody r ≡ bodyOf z m s (length counts) (length xy) (length zs) (length ms) → ReadsBody z m s counts xy zs ms r counts xy zs ms
-  unread (Is.Whole body) t e = absurd t
-  unread (Is.Short at present) t e = record { says = e; counts-are = refl; xy-are = refl; z-are = refl; m-are = refl }
-  unread (Is.Size at) t e = record { says = e; counts-are = refl; xy-are = refl; z-are = refl; m-are = refl }
-  unread (Is.Room p n) t e = record { says = e; counts-are = refl; xy-are = refl; z-are = refl; m-are = refl }
+  unread r t e =
+      record {
+        says = e;
+        counts-are = kept (saidBody r) t counts _;
+        xy-are = kept (saidBody r) t xy _;
+        z-are = kept (saidBody r) t zs _;
+        m-are = kept (saidBody r) t ms _;
+      }

@@ -55,6 +55,9 @@ fn a_damaged_content_is_answered() {
             match read_record(&content, Bytes(size), (size % 3 == 0).then_some(kind)) {
                 Ok(read) => assert!(is_divided(&read)),
                 Err(refused) => {
+                    if let Error::Short { at, present } = refused {
+                        assert!(at + present == content.len() && present < 8);
+                    }
                     numbers.insert(refused.number());
                 }
             }
