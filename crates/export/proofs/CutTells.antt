@@ -3,6 +3,7 @@ use mathlib.Core.Path.{_≡_}
 use mathlib.Core.List.{List}
 use Prim.Native.Nat.{ℕ}
 use native.Mathlib.Omega.{arith}
+use Rattle.format.specs.Lengths.{formAt}
 use Rattle.format.specs.Said.{Said, gives, refuses}
 use Rattle.format.proofs.Placed.{Placed}
 use Rattle.header.specs.Entries.{twoOf, recordHeader, shapeIndex}
@@ -11,12 +12,12 @@ use Rattle.header.proofs.Placed.{header-placed, two-placed}
 use Rattle.multipart.specs.Answers.{countsOf}
 use Rattle.multipart.specs.Body.{bodyOf, bodyWidth}
 use Rattle.multipart.proofs.Placed.{counts-placed, body-placed}
-use Rattle.record.specs.Reading.{recordOf, contentWidth}
+use Rattle.record.specs.Reading.{codeIn, recordOf, contentWidth}
 use Rattle.record.proofs.Placed.{record-placed}
-use Rattle.export.specs.Cut.{readHeader, readRecordHeader, readIndexEntry, readCounts, readBody, readRecord, EndInside, CutTells}
+use Rattle.export.specs.Cut.{readHeader, readRecordHeader, readIndexEntry, readCounts, readBody, readRecord, EndsInField, CutTells}
 use Rattle.export.specs.Refusals.{refusalOf}
 
-inside : {A : Type 0} (width : ℕ → ℕ) (s : List ℕ) (said : Said A) → Placed width s said → refusalOf said .number ≡ 1 → EndInside width s (refusalOf said)
+inside : {A : Type 0} (width : ℕ → ℕ) (s : List ℕ) (said : Said A) → Placed width s said → refusalOf said .number ≡ 1 → EndsInField width s (refusalOf said)
 inside width s (gives a) p e = absurd (omega arith)
 inside width s (refuses n values) p e = let i = p .0 e in rw (i .are) (record { ends = i .ends; fewer = i .fewer })
 
@@ -27,4 +28,4 @@ cut-tells readIndexEntry s = inside (λ at. 4) s (twoOf shapeIndex s) (two-place
 cut-tells readCounts s = inside (bodyWidth s) s (countsOf s) (counts-placed s)
 cut-tells (readBody z m counts xy zs ms) s = inside (bodyWidth s) s (bodyOf z m s counts xy zs ms) (body-placed z m s counts xy zs ms)
 cut-tells (readRecord wanted size counts xy zs ms) s =
-    inside (contentWidth s) s (recordOf wanted size s counts xy zs ms) (record-placed wanted size s counts xy zs ms)
+    inside (contentWidth (formAt (codeIn s)) s) s (recordOf wanted size s counts xy zs ms) (record-placed wanted size s counts xy zs ms)

@@ -5,12 +5,13 @@ use mathlib.Core.List.{List}
 use Prim.Native.Nat.{ℕ, _+_, _<_}
 use lib.ListN.{length}
 use Rattle.format.specs.declared.units.Bytes.{Bytes}
+use Rattle.format.specs.Lengths.{formAt}
 use Rattle.header.specs.Entries.{twoOf, recordHeader, shapeIndex}
 use Rattle.header.specs.Reading.{headerOf, headerWidth}
 use Rattle.multipart.specs.Answers.{countsOf}
 use Rattle.multipart.specs.Body.{bodyOf, bodyWidth}
 use Rattle.record.specs.declared.Wanted.{Wanted}
-use Rattle.record.specs.Reading.{recordOf, contentWidth}
+use Rattle.record.specs.Reading.{codeIn, recordOf, contentWidth}
 use Rattle.export.specs.declared.refusals.Refusal.{Refusal}
 use Rattle.export.specs.Refusals.{refusalOf}
 
@@ -39,12 +40,12 @@ widthAt readRecordHeader s at = 4
 widthAt readIndexEntry s at = 4
 widthAt readCounts s at = bodyWidth s at
 widthAt (readBody z m counts xy zs ms) s at = bodyWidth s at
-widthAt (readRecord wanted size counts xy zs ms) s at = contentWidth s at
+widthAt (readRecord wanted size counts xy zs ms) s at = contentWidth (formAt (codeIn s)) s at
 
 -- the bytes end inside the field that the refusal names: what it counts are the last of the bytes, and fewer than the field has
-pub record EndInside (width : ℕ → ℕ) (s : List ℕ) (r : Refusal) : Type 0 where
+pub record EndsInField (width : ℕ → ℕ) (s : List ℕ) (r : Refusal) : Type 0 where
   pub ends : r .first + r .second ≡ length s
   pub fewer : r .second < width (r .first)
 
 abbrev pub CutTells : Type 0
-CutTells = (call : Call) (s : List ℕ) → refusalFrom call s .number ≡ 1 → EndInside (widthAt call s) s (refusalFrom call s)
+CutTells = (call : Call) (s : List ℕ) → refusalFrom call s .number ≡ 1 → EndsInField (widthAt call s) s (refusalFrom call s)

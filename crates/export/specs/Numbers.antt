@@ -1,12 +1,11 @@
 -- What a caller may conclude from the number that crosses: 0 says that a value is given, and any other is document 01's number of the refusal.
 use mathlib.Core.Path.{_≡_}
-use mathlib.Core.Bool.{Bool, true, false}
 use mathlib.Core.List.{List}
 use Prim.Native.Nat.{ℕ, _≤_}
 use lib.Dec.{eqb}
 use lib.Ieee.{Float}
 use Rattle.format.specs.declared.units.Bytes.{Bytes}
-use Rattle.format.specs.Said.{Said, gives, refuses}
+use Rattle.format.specs.Said.{Said, isGiven}
 use Rattle.header.specs.Entries.{twoOf, recordHeader, shapeIndex}
 use Rattle.header.specs.Reading.{headerOf}
 use Rattle.record.specs.declared.Wanted.{Wanted}
@@ -19,11 +18,6 @@ use Rattle.export.specs.Refusals.{refusalOf}
 use Rattle.export.specs.Writing.{finishingOf}
 
 module _ {A : Type 0} where
-  -- whether a value is given
-  abbrev pub isGiven : Said A → Bool
-  isGiven (gives a) = true
-  isGiven (refuses n values) = false
-
   -- the number tells it: 0 where a value is given, and 1 to 10 where not
   abbrev pub Tells : Said A → Type 0
   Tells said = (eqb (refusalOf said .number) 0 ≡ isGiven said) × (refusalOf said .number ≤ 10)

@@ -5,7 +5,7 @@ use mathlib.Core.List.{List, [], _∷_, _++_}
 use mathlib.Core.Option.{Option, none, some}
 use Prim.Native.Nat.{ℕ, _+_, _-_, _≤_, _<_, zero-le}
 use native.Mathlib.Omega.{arith}
-use lib.Dec.{eqb, leb, lit<}
+use lib.Dec.{eqb, lit<}
 use lib.IntN.{ℤ, pos, _-ℤ_}
 use lib.ListN.{length, drop, length-drop}
 use borrow.Author.Tests.{le-leb}
@@ -14,7 +14,7 @@ use Rattle.format.specs.declared.units.Bytes.{Bytes}
 use Rattle.format.specs.Kinds.{known, kindAt, kindOr}
 use Rattle.format.specs.Lengths.{Form, nothing, onePoint, parts, contentWords, formAt}
 use Rattle.format.specs.Order.{first}
-use Rattle.format.specs.Said.{Said, gives, refuses}
+use Rattle.format.specs.Said.{Said, gives, refuses, notTaken}
 use Rattle.format.specs.Units.{sameInt, inI32}
 use Rattle.format.proofs.OrderLaws.{first-append}
 use Rattle.format.proofs.Placed.{ValuesPlaced, Placed, elsewhere, size-placed, test-placed, field-placed, fields-placed}
@@ -23,17 +23,13 @@ use Rattle.multipart.specs.Body.{bodyWidth, bodyOf}
 use Rattle.multipart.proofs.Placed.{counts-placed, body-placed}
 use Rattle.record.specs.declared.Wanted.{Wanted}
 use Rattle.record.specs.declared.Wanted.the-variants as Wants
-use Rattle.record.specs.Reading.{Shaped, codeIn, isTaken, wantedTests, mismatchTests, foundTests, isWords, doublesOf, pointOf, ahead, moved, andThen, hasM, sizeRight, partsOf, byForm, recordOf, widthBy, contentWidth}
+use Rattle.record.specs.Reading.{Shaped, codeIn, isTaken, wantedTests, mismatchTests, foundTests, isWords, doublesOf, pointOf, ahead, moved, andThen, hasM, sizeRight, partsOf, byForm, recordOf, contentWidth}
 
 -- ---- behind the kind's field, in a content of a form
 
-module _ (form : Option Form) (s : List ℕ) where
-  abbrev widthIn : ℕ → ℕ
-  widthIn at = cond (leb 4 at) (widthBy form (drop 4 s) (at - 4)) 4
-
 module _ (s : List ℕ) (h : 4 ≤ length s) where
   abbrev W : ℕ → ℕ
-  W = widthIn (some parts) s
+  W = contentWidth (some parts) s
 
   moved-by : (A : Type 0) (b : Bool) (n : ℕ) (values : List ℤ) → eqb n 1 || eqb n 3 ≡ b → ValuesPlaced (bodyWidth (drop 4 s)) (drop 4 s) n values → Placed W s {A = A} (cond b (refuses n (ahead values)) (refuses n values))
   moved-by A true n values e p = (
@@ -58,18 +54,18 @@ then-placed width s (gives a) f p q = q a
 then-placed width s (refuses n values) f p q = p
 
 module _ (k : Kind) (size : Bytes) (s : List ℕ) (h : 4 ≤ length s) where
-  point-placed : Placed (widthIn (some onePoint) s) s (pointOf k size s)
+  point-placed : Placed (contentWidth (some onePoint) s) s (pointOf k size s)
   unfolding pointOf
   point-placed =
-      let w = widthIn (some onePoint) s in
+      let w = contentWidth (some onePoint) s in
       test-placed w s (isWords size (contentWords onePoint (k .z) (k .m) 0 1)) _ _ (size-placed w s 0 zero-le)
       (λ e. fields-placed w s 8 (doublesOf k) 4 (lit< tt) h (λ p i j. rw (le-leb 4 p i)) _ (λ l. tt))
 
   module _ (counts xy zs ms : ℕ) where
-    parts-placed : Placed (widthIn (some parts) s) s (partsOf k size s counts xy zs ms)
+    parts-placed : Placed (contentWidth (some parts) s) s (partsOf k size s counts xy zs ms)
     unfolding partsOf
     parts-placed =
-        let w = widthIn (some parts) s in
+        let w = contentWidth (some parts) s in
         let b = drop 4 s in
         then-placed w s (moved (countsOf b)) _ (moved-placed s h (countsOf b) (counts-placed b))
         (λ two.
@@ -77,35 +73,32 @@ module _ (k : Kind) (size : Bytes) (s : List ℕ) (h : 4 ≤ length s) where
         test-placed w s (sizeRight k size two) _ _ (size-placed w s 0 zero-le)
         (λ e. then-placed w s (moved body) _ (moved-placed s h body (body-placed (k .z) (hasM k size two) b counts xy zs ms)) (λ read. tt)))
 
-    form-placed : (form : Option Form) → Placed (widthIn form s) s (byForm form k size s counts xy zs ms)
-    form-placed none = elsewhere (widthIn none s) s 9 _ refl
+    form-placed : (form : Option Form) → Placed (contentWidth form s) s (byForm form k size s counts xy zs ms)
+    form-placed none = elsewhere (contentWidth none s) s 9 _ refl
     form-placed (some nothing) = tt
     form-placed (some onePoint) = point-placed
     form-placed (some parts) = parts-placed
 
 -- ---- in front of it
 
-module _ (s : List ℕ) (a : Said Shaped) where
-  abbrev C : ℕ → ℕ
-  C = contentWidth s
-
-  mismatch-placed : (wanted : Wanted) (found : ℤ) → Placed C s a → Placed C s (first (mismatchTests wanted found) a)
+module _ (width : ℕ → ℕ) (s : List ℕ) (a : Said Shaped) where
+  mismatch-placed : (wanted : Wanted) (found : ℤ) → Placed width s a → Placed width s (first (mismatchTests wanted found) a)
   mismatch-placed Wants.Any found p = p
-  mismatch-placed (Wants.Kind code) found p = test-placed C s (sameInt code found) a _ (elsewhere C s 5 _ refl) (λ e. p)
+  mismatch-placed (Wants.Kind code) found p = test-placed width s (sameInt code found) a _ (elsewhere width s 5 _ refl) (λ e. p)
 
-  wanted-placed : (wanted : Wanted) → Placed C s a → Placed C s (first (wantedTests wanted) a)
+  wanted-placed : (wanted : Wanted) → Placed width s a → Placed width s (first (wantedTests wanted) a)
   wanted-placed Wants.Any p = p
   wanted-placed (Wants.Kind code) p =
-      test-placed C s (known code) _ _ (elsewhere C s 4 _ refl)
-      (λ i. test-placed C s (isTaken code && not (sameInt code (pos 0))) a _ (elsewhere C s 9 _ refl) (λ j. p))
+      test-placed width s (known code) _ _ (elsewhere width s 4 _ refl)
+      (λ i. test-placed width s (isTaken code && not (sameInt code (pos 0))) a _ (elsewhere width s 9 _ refl) (λ j. p))
 
-module _ (wanted : Wanted) (size : Bytes) (s : List ℕ) (a : Said Shaped) where
+module _ (form : Option Form) (wanted : Wanted) (size : Bytes) (s : List ℕ) (a : Said Shaped) where
   abbrev last : List (Bool × Said Shaped)
-  last = (isTaken (codeIn s), refuses 9 (codeIn s ∷ [])) ∷ []
+  last = (isTaken (codeIn s), notTaken (codeIn s)) ∷ []
 
-  found-placed : (4 ≤ length s → Placed (contentWidth s) s a) → Placed (contentWidth s) s (first (foundTests wanted size s) a)
+  found-placed : (4 ≤ length s → Placed (contentWidth form s) s a) → Placed (contentWidth form s) s (first (foundTests wanted size s) a)
   found-placed p =
-      let w = contentWidth s in
+      let w = contentWidth form s in
       field-placed w s 4 0 zero-le refl _
       (λ h.
       test-placed w s (known (codeIn s)) _ _ (elsewhere w s 4 _ refl)
@@ -113,13 +106,15 @@ module _ (wanted : Wanted) (size : Bytes) (s : List ℕ) (a : Said Shaped) where
       test-placed w s (inI32 (size .0 -ℤ pos 4)) (first (mismatchTests wanted (codeIn s) ++ last) a) _ (size-placed w s 0 zero-le)
       (λ j.
       rw (first-append (mismatchTests wanted (codeIn s)) last a)
-      (mismatch-placed s (first last a) wanted (codeIn s)
+      (mismatch-placed w s (first last a) wanted (codeIn s)
       (test-placed w s (isTaken (codeIn s)) a _ (elsewhere w s 9 _ refl) (λ k. p h))))))
 
-pub record-placed : (wanted : Wanted) (size : Bytes) (s : List ℕ) (counts xy zs ms : ℕ) → Placed (contentWidth s) s (recordOf wanted size s counts xy zs ms)
+pub record-placed : (wanted : Wanted) (size : Bytes) (s : List ℕ) (counts xy zs ms : ℕ) → Placed (contentWidth (formAt (codeIn s)) s) s (recordOf wanted size s counts xy zs ms)
 unfolding recordOf
 record-placed wanted size s counts xy zs ms =
-    let a = byForm (formAt (codeIn s)) (kindOr (kindAt (codeIn s))) size s counts xy zs ms in
+    let form = formAt (codeIn s) in
+    let kind = kindOr (kindAt (codeIn s)) in
+    let a = byForm form kind size s counts xy zs ms in
     rw (first-append (wantedTests wanted) (foundTests wanted size s) a)
-    (wanted-placed s (first (foundTests wanted size s) a) wanted
-    (found-placed wanted size s a (λ h. form-placed (kindOr (kindAt (codeIn s))) size s h counts xy zs ms (formAt (codeIn s)))))
+    (wanted-placed (contentWidth form s) s (first (foundTests wanted size s) a) wanted
+    (found-placed form wanted size s a (λ h. form-placed kind size s h counts xy zs ms form)))

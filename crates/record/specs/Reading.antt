@@ -129,15 +129,15 @@ unfoldable pub recordOf : Wanted → Bytes → List ℕ → ℕ → ℕ → ℕ 
 recordOf wanted size s counts xy zs ms =
     first (frontTests wanted size s) (byForm (formAt (codeIn s)) (kindOr (kindAt (codeIn s))) size s counts xy zs ms)
 
--- how wide the field at a place is: the kind's has four bytes, and the body's fields follow it; a point's have eight
+-- how wide the field at a place of a content of a form is: the kind's has four bytes; behind it the body's fields, or a point's, of eight
 abbrev pub widthBy : Option Form → List ℕ → ℕ → ℕ
 widthBy none b at = 8
 widthBy (some nothing) b at = 8
 widthBy (some onePoint) b at = 8
 widthBy (some parts) b at = bodyWidth b at
 
-abbrev pub contentWidth : List ℕ → ℕ → ℕ
-contentWidth s at = cond (leb 4 at) (widthBy (formAt (codeIn s)) (drop 4 s) (at - 4)) 4
+abbrev pub contentWidth : Option Form → List ℕ → ℕ → ℕ
+contentWidth form s at = cond (leb 4 at) (widthBy form (drop 4 s) (at - 4)) 4
 
 -- ---- the answer in document 01's terms, and the stores
 
