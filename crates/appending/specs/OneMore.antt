@@ -9,12 +9,12 @@ use lib.IntN.{ℤ, pos}
 use lib.ListN.{length}
 use Rattle.format.specs.declared.kinds.Kind.{Kind}
 use Rattle.format.specs.Encoding.{recordsFrom, entriesFrom, entryBytes, endFrom, HeldFrom, IsPair}
-use Rattle.format.specs.Kinds.{kindAt}
+use Rattle.format.specs.Kinds.{kindAt, kindOr}
 use Rattle.format.specs.Said.{gives}
-use Rattle.format.specs.Shapes.{Shape, OfKind}
+use Rattle.format.specs.Shapes.{Shape, Among}
 use Rattle.header.specs.Box.{boxBits}
 use Rattle.writer.specs.declared.State.{State}
-use Rattle.writer.specs.Adding.{Lent, lentKind, lentShape, recordOf, entryOf, nextState, addingOf}
+use Rattle.writer.specs.Adding.{Lent, lentShape, recordOf, entryOf, nextState, addingOf}
 use Rattle.writer.specs.Boxes.{settled}
 use Rattle.writer.specs.Finishing.{shpHeader, shxHeader}
 use Rattle.writer.specs.State.{fresh, stateFine}
@@ -31,6 +31,10 @@ pub record Behind (k : Kind) (ss : List Shape) (s : State) : Type 0 where
   pub kind : KindBehind k ss (s .kind)
   pub held : HeldFrom 1 50 ss
 
+-- the kind that a state names
+abbrev pub kindOf : State → Kind
+kindOf s = kindOr (kindAt (s .kind))
+
 -- the records of these shapes, and their entries
 abbrev pub records : Kind → List Shape → List ℕ
 records k ss = recordsFrom k 1 ss
@@ -38,15 +42,16 @@ records k ss = recordsFrom k 1 ss
 abbrev pub entries : List Shape → List ℕ
 entries ss = flatten (map entryBytes (entriesFrom 50 ss))
 
--- One shape more: it is of its kind, the next state is the one behind it, and finishing does not refuse that state. The records with the new one
--- behind them are those of the longer list, so are the entries, and with the finished headers in front they are its pair of files.
+-- One shape more: it is of the kind that the next state names, or Null, the next state is the one behind it, and finishing does not refuse that
+-- state. The records with the new one behind them are those of the longer list, so are the entries, and with the finished headers in front they
+-- are its pair of files.
 pub record OneMore (k : Kind) (ss : List Shape) (s : State) (t : Lent) : Type 0 where
-  pub of-kind : OfKind (lentKind t) (lentShape t)
-  pub behind : Behind (lentKind t) (ss ++ lentShape t ∷ []) (nextState s t)
+  pub among : Among (kindOf (nextState s t)) (lentShape t)
+  pub behind : Behind (kindOf (nextState s t)) (ss ++ lentShape t ∷ []) (nextState s t)
   pub fine : stateFine (nextState s t) ≡ true
-  pub appended : records (lentKind t) (ss ++ lentShape t ∷ []) ≡ records k ss ++ recordOf s t
+  pub appended : records (kindOf (nextState s t)) (ss ++ lentShape t ∷ []) ≡ records k ss ++ recordOf s t
   pub indexed : entries (ss ++ lentShape t ∷ []) ≡ entries ss ++ entryOf s t
-  pub pair : IsPair (lentKind t) (boxBits (settled (nextState s t .bbox))) (ss ++ lentShape t ∷ [])
+  pub pair : IsPair (kindOf (nextState s t)) (boxBits (settled (nextState s t .bbox))) (ss ++ lentShape t ∷ [])
       (shpHeader (nextState s t) ++ (records k ss ++ recordOf s t))
       (shxHeader (nextState s t) ++ (entries ss ++ entryOf s t))
 

@@ -16,7 +16,7 @@ use Rattle.format.specs.Encoding.{Box, doubles, pointBytes, boxBytes, st
 use Rattle.format.specs.Lengths.{Form, onePoint, given, fixedWords, pointWords, contentWords}
 use Rattle.format.specs.Lengths
 use Rattle.format.specs.Numbers.{big, little, double, beI32, leI32, leF64, i32Be, i32Le, f64Le, f64sLe}
-use Rattle.format.specs.Shapes.{Point, BoxXY, Parts, Shape, null, point, parted, there, partsIn, pointsIn}
+use Rattle.format.specs.Shapes.{Point, BoxXY, Parts, Shape, null, point, parted, there, partsIn, pointsIn, ownKind}
 use Rattle.format.specs.WellFormed.{hasRings, leastPoints}
 
 -- ---- bytes
@@ -195,7 +195,7 @@ pub records-nil : (k : Kind) (n : ℕ) → recordsFrom k n [] ≡ []
 unfolding recordsFrom
 records-nil k n = refl
 
-pub records-cons : (k : Kind) (n : ℕ) (s : Shape) (ss : List Shape) → recordsFrom k n (s ∷ ss) ≡ recordBytes k n s ++ recordsFrom k (n + 1) ss
+pub records-cons : (k : Kind) (n : ℕ) (s : Shape) (ss : List Shape) → recordsFrom k n (s ∷ ss) ≡ recordBytes (ownKind k s) n s ++ recordsFrom k (n + 1) ss
 unfolding recordsFrom
 records-cons k n s ss = refl
 

@@ -9,7 +9,7 @@ use Rattle.format.specs.declared.kinds.Kind.{Kind}
 use Rattle.format.specs.Bytes.{le, be, field}
 use Rattle.format.specs.Encoding.{shapeBytes, shapeWords, content, twoBig, recordBytes, recordsFrom, entriesFrom, entryBytes, endFrom, Held, HeldFrom}
 use Rattle.format.specs.Numbers.{big, little}
-use Rattle.format.specs.Shapes.{Shape, null, point, parted}
+use Rattle.format.specs.Shapes.{Shape, null, point, parted, ownKind}
 use Rattle.format.proofs.ByteLaws.{AllBytes}
 use Rattle.format.proofs.LengthLaws.{some-words}
 use Rattle.format.proofs.NumberLaws.{length-big, length-little, length-two}
@@ -112,13 +112,13 @@ held-at n w (q ∷ ss) (suc i) h j =
 
 -- ---- one record more behind the others: its number is one more than theirs, and it stands where they end
 
-pub records-more : (k : Kind) (n : ℕ) (ss : List Shape) (s : Shape) → recordsFrom k n (ss ++ s ∷ []) ≡ recordsFrom k n ss ++ recordBytes k (n + length ss) s
+pub records-more : (k : Kind) (n : ℕ) (ss : List Shape) (s : Shape) → recordsFrom k n (ss ++ s ∷ []) ≡ recordsFrom k n ss ++ recordBytes (ownKind k s) (n + length ss) s
 unfolding recordsFrom
 records-more k n [] s = rw (append-nil, add-zero)
 records-more k n (r ∷ ss) s =
     let e : n + 1 + length ss ≡ n + suc (length ss) = omega arith in
-    ap (λ (l : List ℕ). recordBytes k n r ++ l) (records-more k (n + 1) ss s ∙ ap (λ (m : ℕ). recordsFrom k (n + 1) ss ++ recordBytes k m s) e)
-    ∙ sym (append-assoc (recordBytes k n r) (recordsFrom k (n + 1) ss) (recordBytes k (n + suc (length ss)) s))
+    ap (λ (l : List ℕ). recordBytes (ownKind k r) n r ++ l) (records-more k (n + 1) ss s ∙ ap (λ (m : ℕ). recordsFrom k (n + 1) ss ++ recordBytes (ownKind k s) m s) e)
+    ∙ sym (append-assoc (recordBytes (ownKind k r) n r) (recordsFrom k (n + 1) ss) (recordBytes (ownKind k s) (n + suc (length ss)) s))
 
 pub end-more : (w : ℕ) (ss : List Shape) (s : Shape) → endFrom w (ss ++ s ∷ []) ≡ endFrom w ss + (4 + shapeWords s)
 unfolding endFrom

@@ -9,7 +9,7 @@ use Rattle.format.specs.declared.kinds.Kind.{Kind}
 use Rattle.format.specs.Lengths.{nothing, onePoint, contentWords}
 use Rattle.format.specs.Lengths
 use Rattle.format.specs.Numbers.{big, little, double}
-use Rattle.format.specs.Shapes.{Point, BoxXY, Measure, Parts, Shape, null, point, parted, partsIn, pointsIn, there}
+use Rattle.format.specs.Shapes.{Point, BoxXY, Measure, Parts, Shape, null, point, parted, partsIn, pointsIn, there, ownKind}
 
 -- ---- a shape's content
 
@@ -77,10 +77,10 @@ pub record Entry : Type 0 where
 abbrev pub entryBytes : Entry → List ℕ
 entryBytes e = twoBig (e .offset) (e .words)
 
--- the records, numbered from n
+-- the records of a file of kind k, numbered from n; each is of its shape's own kind
 unfoldable pub recordsFrom : Kind → ℕ → List Shape → List ℕ
 recordsFrom k n [] = []
-recordsFrom k n (s ∷ ss) = recordBytes k n s ++ recordsFrom k (n + 1) ss
+recordsFrom k n (s ∷ ss) = recordBytes (ownKind k s) n s ++ recordsFrom k (n + 1) ss
 
 -- their entries, where the first record stands at word w: a record's header takes 4 words
 unfoldable pub entriesFrom : ℕ → List Shape → List Entry
@@ -119,7 +119,7 @@ unfoldable pub endFrom : ℕ → List Shape → ℕ
 endFrom w [] = w
 endFrom w (s ∷ ss) = endFrom (w + (4 + shapeWords s)) ss
 
--- the .shp and the .shx of shapes of a kind
+-- the .shp and the .shx of a file of kind k with these shapes
 unfoldable pub shpBytes : Kind → Box → List Shape → List ℕ
 shpBytes k box ss = headerBytes (endFrom 50 ss) 1000 (k .code) box ++ recordsFrom k 1 ss
 

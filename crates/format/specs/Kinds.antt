@@ -14,6 +14,10 @@ use Rattle.format.specs.Said.{Said, gives, unknown, isGiven}
 abbrev pub kind : ℕ → Bool → Bool → Bool → Kind
 kind code z m parts = record { code = code; z = z; m = m; parts = parts }
 
+-- Null's kind
+abbrev pub nullKind : Kind
+nullKind = kind 0 false false false
+
 --     code z     m     parts
 unfoldable pub kinds : List Kind
 kinds =
@@ -49,7 +53,7 @@ kindAt (negsuc n) = none
 
 -- what is not in the table is refused before its kind is used
 abbrev pub kindOr : Option Kind → Kind
-kindOr none = kind 0 false false false
+kindOr none = nullKind
 kindOr (some k) = k
 
 -- what `find_kind` answers, in document 01's terms

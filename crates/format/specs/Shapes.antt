@@ -7,6 +7,7 @@ use mathlib.Core.Option.{Option, none, some}
 use Prim.Native.Nat.{ℕ, _+_}
 use lib.ListN.{length}
 use Rattle.format.specs.declared.kinds.Kind.{Kind}
+use Rattle.format.specs.Kinds.{nullKind}
 use Rattle.format.specs.Lengths.{nothing, onePoint, formOf}
 use Rattle.format.specs.Lengths
 
@@ -86,3 +87,15 @@ abbrev pub OfKind : Kind → Shape → Type 0
 OfKind k null = formOf k ≡ some nothing
 OfKind k (point xy z m) = PointOf k z m
 OfKind k (parted s) = PartsOf k s
+
+-- ---- which shapes a file of a kind holds: Null may stand among the others
+
+-- the kind of a shape's own record
+abbrev pub ownKind : Kind → Shape → Kind
+ownKind k null = nullKind
+ownKind k (point xy z m) = k
+ownKind k (parted s) = k
+
+-- the shape is of the file's kind, or Null
+abbrev pub Among : Kind → Shape → Type 0
+Among k s = OfKind (ownKind k s) s

@@ -9,7 +9,7 @@ use Rattle.format.specs.declared.kinds.Kind.{Kind}
 use Rattle.format.specs.Bytes.{field}
 use Rattle.format.specs.Encoding.{Box, content, recordsFrom, entriesFrom, entryBytes, endFrom, HeldFrom}
 use Rattle.format.specs.Said.{Said, gives, fault}
-use Rattle.format.specs.Shapes.{Shape, null}
+use Rattle.format.specs.Shapes.{Shape, null, ownKind}
 use Rattle.rules.specs.Meaning.{AllWellFormed, FileOf}
 use Rattle.rules.specs.Rules.{Taken, Counts, bigAt, takenIn, headersFault, recordFault}
 
@@ -32,9 +32,9 @@ pub record NamesRecord (shp shx : List ℕ) (k : ℕ) : Type 0 where
   pub entry-within : entryAt k + 8 ≤ length shx
   pub record-within : 2 * offsetOf k shx + (8 + 2 * extentOf k shx) ≤ length shp
 
--- and behind its header the content of a shape
+-- and behind its header the content of a shape, by the shape's own kind
 abbrev pub HoldsShape : Kind → List ℕ → List ℕ → ℕ → Shape → Type 0
-HoldsShape kind shp shx k s = field (2 * extentOf k shx) (2 * offsetOf k shx + 8) shp ≡ content kind s
+HoldsShape kind shp shx k s = field (2 * extentOf k shx) (2 * offsetOf k shx + 8) shp ≡ content (ownKind kind s) s
 
 -- ---- a no
 

@@ -13,7 +13,7 @@ use Rattle.format.specs.Bytes.{field}
 use Rattle.format.specs.Encoding.{Box, content, shapeWords}
 use Rattle.format.specs.Kinds.{kindAt}
 use Rattle.format.specs.Said.{gives}
-use Rattle.format.specs.Shapes.{Measure, Parts, Shape, null, point, parted, there, OfKind}
+use Rattle.format.specs.Shapes.{Measure, Parts, Shape, null, point, parted, there, OfKind, ownKind}
 use Rattle.format.specs.WellFormed.{coordinates}
 use Rattle.multipart.specs.declared.Body.{Body}
 use Rattle.multipart.specs.declared.Range.{Range}
@@ -113,4 +113,4 @@ contentAt k shp shx = field (2 * extentOf k shx) (2 * offsetOf k shx + 8) shp
 abbrev pub ReadsRecords : Type 0
 ReadsRecords =
     (kind : Kind) (box : Box) (ss : List Shape) (shp shx : List ℕ) → FileOf kind box ss shp shx → (k : ℕ) → 1 ≤ k → k ≤ length ss
-    → Small (getD ss (k - 1) null) → ReadsShape kind (getD ss (k - 1) null) (sizeAt k shx) (contentAt k shp shx)
+    → Small (getD ss (k - 1) null) → ReadsShape (ownKind kind (getD ss (k - 1) null)) (getD ss (k - 1) null) (sizeAt k shx) (contentAt k shp shx)

@@ -9,7 +9,7 @@ use Rattle.format.specs.declared.kinds.Kind.{Kind}
 use Rattle.format.specs.Encoding.{Box, IsPair}
 use Rattle.format.specs.Kinds.{kindAt}
 use Rattle.format.specs.Lengths.{Form, formOf}
-use Rattle.format.specs.Shapes.{Shape, OfKind, partsIn, pointsIn}
+use Rattle.format.specs.Shapes.{Shape, Among, partsIn, pointsIn}
 use Rattle.format.specs.WellFormed.{WellFormed, BoxFinite}
 use Rattle.format.specs.Said.{Said, gives}
 use Rattle.rules.specs.Rules.{Counts}
@@ -20,10 +20,10 @@ pub record TakenKind (k : Kind) : Type 0 where
   pub in-table : kindAt (pos (k .code)) ≡ some k
   pub taken : formOf k ≡ some form
 
--- every shape is one of the kind, and well-formed
+-- every shape is one of the kind or Null, and well-formed
 abbrev pub AllWellFormed : Kind → List Shape → Type 0
 AllWellFormed k [] = Unit {0}
-AllWellFormed k (s ∷ ss) = OfKind k s × WellFormed k s × AllWellFormed k ss
+AllWellFormed k (s ∷ ss) = Among k s × WellFormed k s × AllWellFormed k ss
 
 abbrev pub allParts : List Shape → ℕ
 allParts [] = 0
@@ -33,7 +33,7 @@ abbrev pub allPoints : List Shape → ℕ
 allPoints [] = 0
 allPoints (s ∷ ss) = pointsIn s + allPoints ss
 
--- the two files are those of well-formed shapes of a taken kind, with a finite box
+-- the two files are those of a taken kind with well-formed shapes and a finite box
 pub record FileOf (k : Kind) (box : Box) (ss : List Shape) (shp shx : List ℕ) : Type 0 where
   pub kind : TakenKind k
   pub box-finite : BoxFinite box

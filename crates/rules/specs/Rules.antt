@@ -9,7 +9,7 @@ use lib.IntN.{pos}
 use lib.ListN.{length, drop, replicate}
 use Rattle.format.specs.declared.kinds.Kind.{Kind}
 use Rattle.format.specs.Bytes.{le, be, field}
-use Rattle.format.specs.Kinds.{kindAt}
+use Rattle.format.specs.Kinds.{nullKind, kindAt}
 use Rattle.format.specs.Lengths.{Form, nothing, onePoint, parts, formOf, mayLackM, contentWords}
 use Rattle.format.specs.Numbers.{finite}
 use Rattle.format.specs.Order.{first}
@@ -50,6 +50,9 @@ finites (suc n) at s = finite (doubleAt at s) && finites n (at + 8) s
 pub record Taken : Type 0 where
   pub kind : Kind
   pub form : Form
+
+abbrev pub nullTaken : Taken
+nullTaken = record { kind = nullKind; form = nothing }
 
 abbrev pub withForm : Kind → Option Form → Option Taken
 withForm k none = none
@@ -117,8 +120,17 @@ P10 l = held (wordsOf l) && leb 2 (wordsOf l) && leb (8 + 2 * wordsOf l) (length
 abbrev pub P11 : List ℕ → List ℕ → ℕ → Bool
 P11 l x at = leb 8 (length x) && held (bigAt 0 x) && eqb (2 * bigAt 0 x) at && eqb (bigAt 4 x) (wordsOf l)
 
+-- the kind is the header's, or Null
 abbrev pub P12 : Kind → List ℕ → Bool
-P12 k l = eqb (littleAt 8 l) (k .code)
+P12 k l = eqb (littleAt 8 l) (k .code) || eqb (littleAt 8 l) 0
+
+-- what the record's header, its entry and its kind have to meet
+abbrev pub headRules : Kind → List ℕ → List ℕ → ℕ → ℕ → List (Bool × ℕ)
+headRules h l x at k = (P9 l k, 9) ∷ (P10 l, 10) ∷ (P11 l x at, 11) ∷ (P12 h l, 12) ∷ []
+
+-- The kind that the content is judged by is the record's own: Null where its field says 0, else the header's.
+abbrev pub ownTaken : Taken → List ℕ → Taken
+ownTaken t l = cond (eqb (littleAt 8 l) 0) nullTaken t
 
 -- the length where m lacks, and where it is there
 abbrev pub lengthWithout : Taken → List ℕ → ℕ
@@ -130,10 +142,6 @@ lengthWith t l = contentWords (t .form) (t .kind .z) (t .kind .m) (partsOf (t .f
 abbrev pub P13 : Taken → List ℕ → Bool
 P13 t l =
     held (partsOf (t .form) l) && held (pointsOf (t .form) l) && (eqb (wordsOf l) (lengthWithout t l) || eqb (wordsOf l) (lengthWith t l))
-
--- what the record's header, its entry and its counts have to meet
-abbrev pub headRules : Taken → List ℕ → List ℕ → ℕ → ℕ → List (Bool × ℕ)
-headRules t l x at k = (P9 l k, 9) ∷ (P10 l, 10) ∷ (P11 l x at, 11) ∷ (P12 (t .kind) l, 12) ∷ (P13 t l, 13) ∷ []
 
 -- r parts are left, the first of them from point cur on; at `at` stands the start of the next one; the last one ends at n
 abbrev pub endOf : ℕ → ℕ → List ℕ → ℕ → ℕ
@@ -185,13 +193,13 @@ P16 t l = doublesRule (t .form)
     doublesRule onePoint = finites ((wordsOf l - 2) / 4) 12 l
     doublesRule parts = finites 4 12 l && finites ((wordsOf l - 22 - 2 * littleAt 44 l) / 4) (pairsAt l) l
 
--- what its shape has to meet
-abbrev pub shapeRules : Taken → List ℕ → List (Bool × ℕ)
-shapeRules t l = (P14 t l, 14) ∷ (P15 t l, 15) ∷ (P16 t l, 16) ∷ []
+-- what the content has to meet
+abbrev pub contentRules : Taken → List ℕ → List (Bool × ℕ)
+contentRules t l = (P13 t l, 13) ∷ (P14 t l, 14) ∷ (P15 t l, 15) ∷ (P16 t l, 16) ∷ []
 
 -- the first rule that the record breaks; 0 for none
 unfoldable pub recordFault : Taken → List ℕ → List ℕ → ℕ → ℕ → ℕ
-recordFault t l x at k = first (headRules t l x at k ++ shapeRules t l) 0
+recordFault t l x at k = first (headRules (t .kind) l x at k ++ contentRules (ownTaken t l) l) 0
 
 -- ---- the verdict
 
@@ -223,8 +231,8 @@ walk (suc fuel) t (b ∷ l) x at c =
     (walk fuel t (drop (size (b ∷ l)) (b ∷ l)) (drop 8 x) (at + size (b ∷ l))
     (record {
       records = c .records + 1;
-      parts = c .parts + partsOf (t .form) (b ∷ l);
-      points = c .points + pointsOf (t .form) (b ∷ l);
+      parts = c .parts + partsOf (ownTaken t (b ∷ l) .form) (b ∷ l);
+      points = c .points + pointsOf (ownTaken t (b ∷ l) .form) (b ∷ l);
     }))
 
 -- no walk has more records than bytes

@@ -24,7 +24,7 @@ use Rattle.writer.specs.declared.State.{State}
 use Rattle.writer.specs.declared.AddAnswer.{AddAnswer}
 use Rattle.writer.specs.declared.AddAnswer.the-variants.{Added, Size, Unknown, NotTaken, Mismatch, Tables, Long, Room}
 use Rattle.writer.specs.declared.Adding.{Adding}
-use Rattle.writer.specs.Boxes.{startBox, grown, ownBox}
+use Rattle.writer.specs.Boxes.{startBox, grown, flat, pointBox}
 use Rattle.writer.specs.State.{isZero, stateFine}
 
 -- what a caller lends: the kind's code, the box with the ranges, and the tables
@@ -80,11 +80,15 @@ abbrev pub pointAgrees : Kind → Lent → Bool
 pointAgrees k t =
     eqb (length (t .counts)) 0 && eqb (length (t .xy)) 2 && eqb (length (t .zs)) (cond (k .z) 1 0) && eqb (length (t .ms)) (cond (k .m) 1 0)
 
+-- a Null record has no table that is not empty
+abbrev pub nullAgrees : Lent → Bool
+nullAgrees t = eqb (length (t .counts)) 0 && eqb (length (t .xy)) 0 && eqb (length (t .zs)) 0 && eqb (length (t .ms)) 0
+
 abbrev pub lentAgree : Lent → Bool
 lentAgree t = by-form (lentForm t)
   where
     by-form : Form → Bool
-    by-form nothing = true
+    by-form nothing = nullAgrees t
     by-form onePoint = pointAgrees (lentKind t) t
     by-form parts = agree (lentKind t .z) (lentKind t .m) (t .counts) (t .xy) (t .zs) (t .ms)
 
@@ -103,13 +107,13 @@ recordSize t = 8 + 2 * shapeWords (lentShape t)
 abbrev pub bufferNeeded : ℕ → Lent → ℕ
 bufferNeeded start t = min (start + recordSize t) (2 ^ 64 - 1)
 
--- 3, 4, 9 and 5: of the state and the kind; kind 0 takes any
+-- 3, 4, 9 and 5: of the state and the kind; a state of kind 0 takes any kind but Null, and a state with a kind takes that kind and Null
 abbrev pub kindTests : {A : Type 0} → State → ℤ → List (Bool × Said A)
 kindTests s code =
     (stateFine s, wrongSize 0)
     ∷ (known code, unknown code)
-    ∷ (there (formAt code) && not (isZero code), notTaken code)
-    ∷ (isZero (s .kind) || sameInt (s .kind) code, mismatch (s .kind) code)
+    ∷ (there (formAt code) && not (isZero code && isZero (s .kind)), notTaken code)
+    ∷ (isZero (s .kind) || isZero code || sameInt (s .kind) code, mismatch (s .kind) code)
     ∷ []
 
 -- 10, 7 and 6: of the tables, the length and the room, the record's buffer first
@@ -136,13 +140,24 @@ entryOf s t = entryBytes (record { offset = natAbs (s .words .0); words = shapeW
 abbrev pub heldBox : State → BBoxZ
 heldBox s = cond (isZero (s .kind)) startBox (s .bbox)
 
+-- the kind and the box behind the record: points give their own values, parts kinds the given box and ranges, and Null leaves both as they were
+abbrev pub kindThen : Form → State → Lent → ℤ
+kindThen nothing s t = s .kind
+kindThen onePoint s t = t .code
+kindThen parts s t = t .code
+
+abbrev pub boxThen : Form → State → Lent → BBoxZ
+boxThen nothing s t = s .bbox
+boxThen onePoint s t = grown (flat (lentKind t) (pointBox (t .xy) (t .zs) (t .ms))) (heldBox s)
+boxThen parts s t = grown (flat (lentKind t) (t .box)) (heldBox s)
+
 unfoldable pub nextState : State → Lent → State
 nextState s t =
     record {
       words = record { 0 = pos (wordsThen s t) };
       number = pos (natAbs (s .number) + 1);
-      kind = t .code;
-      bbox = grown (ownBox (lentKind t) (lentForm t) (t .box) (t .xy) (t .zs) (t .ms)) (heldBox s);
+      kind = kindThen (lentForm t) s t;
+      bbox = boxThen (lentForm t) s t;
     }
 
 -- the bytes of the record, with buffers of these lengths

@@ -5,7 +5,6 @@ use lib.Ieee.{Float, binary64, ofBits, ofInt, lt, eq}
 use lib.IntN.{pos}
 use lib.ListN.{getD}
 use Rattle.format.specs.declared.kinds.Kind.{Kind}
-use Rattle.format.specs.Lengths.{Form, nothing, onePoint, parts}
 use Rattle.header.specs.declared.bbox.BBoxZ.{BBoxZ}
 
 -- `f64_min` and `f64_max` of the Rust
@@ -83,12 +82,6 @@ pointBox xy zs ms =
       mmin = getD ms 0 zeroDouble;
       mmax = getD ms 0 zeroDouble;
     }
-
--- points give their own values, parts kinds the given box and ranges
-abbrev pub ownBox : Kind → Form → BBoxZ → List Float → List Float → List Float → BBoxZ
-ownBox k nothing b xy zs ms = zeroBox
-ownBox k onePoint b xy zs ms = flat k (pointBox xy zs ms)
-ownBox k parts b xy zs ms = flat k b
 
 -- a range that is still at its start values
 abbrev pub untouched : Float → Float → Bool
