@@ -21,7 +21,7 @@ use Rattle.format.specs.declared.lengths.Counted.the-variants.{Is, Long}
 use Rattle.format.specs.declared.lengths.Formula.{Formula}
 use Rattle.format.specs.declared.lengths.Lengths.{Lengths}
 use Rattle.format.specs.declared.units.Words.{Words}
-use Rattle.format.specs.Kinds.{kinds, kindAt}
+use Rattle.format.specs.Kinds.{nullKind, kinds, rowOf, kindAt}
 use Rattle.format.specs.Lengths.{Form, nothing, onePoint, parts, formOf, fixedWords, pointWords, contentWords, lengthsFor, lengthsOf, saidContent, orNotTaken, lengthsIn, contentOf, formulaWords, saidCounted, counted}
 use Rattle.format.specs.Said.{Said, gives, unknown, notTaken, long}
 use Rattle.format.specs.Units.{sameInt}
@@ -165,6 +165,15 @@ form-flags z k f h e = go (eqb (k .code) 0) (k .parts) refl refl (of-table plain
     go true false a b t e = rw e (a, b)
     go false true a b t e = rw e (a, b)
     go false false a b t e = rw e (a, b)
+
+-- Null's kind is the table's, and taken
+pub null-row : kindAt (pos 0) ≡ some nullKind
+unfolding kinds rowOf
+null-row = refl
+
+pub null-form : formOf nullKind ≡ some nothing
+unfolding formOf
+null-form = refl
 
 -- ---- what a formula comes to
 

@@ -6,7 +6,7 @@ use native.Mathlib.Omega.{arith}
 use lib.ListN.{length, getD}
 use Rattle.format.specs.declared.kinds.Kind.{Kind}
 use Rattle.format.specs.Encoding.{Box, shapeWords, content, twoBig, recordBytes, recordsFrom, Held}
-use Rattle.format.specs.Shapes.{Shape, null, OfKind}
+use Rattle.format.specs.Shapes.{Shape, null, OfKind, ownKind}
 use Rattle.format.proofs.Laid.{length-content, length-record}
 use Rattle.format.proofs.NumberLaws.{length-two}
 use Rattle.format.proofs.Places.{Stands, all-behind, field-stands, stands-within}
@@ -20,18 +20,22 @@ module _ (kind : Kind) (box : Box) (ss : List Shape) (shp shx : List ℕ) (f : F
   abbrev s : Shape
   s = getD ss i null
 
+  -- its own kind
+  abbrev own : Kind
+  own = ownKind kind s
+
   -- the word at which record 1 + i stands
   w : ℕ
   w = wordOf 50 ss i
 
-  of-kind : OfKind kind s
+  of-kind : OfKind own s
   of-kind = kind-at kind ss i (f .fine) inside
 
   held : Held (1 + i) × Held w × Held (shapeWords s)
   unfolding w
   held = held-at 1 50 ss i (f .is .held) inside
 
-  in-shp : Stands (2 * w) (recordBytes kind (1 + i) s) shp
+  in-shp : Stands (2 * w) (recordBytes own (1 + i) s) shp
   unfolding w
   in-shp = record-placed kind 1 50 ss shp i (f .fine) (all-behind 100 (recordsFrom kind 1 ss) shp (records-behind kind box ss shp shx f)) inside
 
@@ -49,23 +53,23 @@ module _ (kind : Kind) (box : Box) (ss : List Shape) (shp shx : List ℕ) (f : F
   extent = rw place (second-read w (shapeWords s) (100 + 8 * i) shx in-shx (omega (arith, held)))
 
   header : Stands (2 * w) (twoBig (1 + i) (shapeWords s)) shp
-  header = in-header kind (1 + i) s shp (2 * w) in-shp
+  header = in-header own (1 + i) s shp (2 * w) in-shp
 
   names : NamesRecord shp shx (1 + i)
   names =
-      let lr = length-record kind (1 + i) s of-kind in
+      let lr = length-record own (1 + i) s of-kind in
       let lt = length-two w (shapeWords s) in
       record {
         number = rw offset (first-read (1 + i) (shapeWords s) (2 * w) shp header (omega (arith, held)));
         extent = rw (offset, extent) (second-read (1 + i) (shapeWords s) (2 * w) shp header (omega (arith, held)));
         entry-within = rw place (omega (arith, stands-within (100 + 8 * i) (twoBig w (shapeWords s)) shx in-shx (omega arith)));
-        record-within = rw (offset, extent) (omega (arith, stands-within (2 * w) (recordBytes kind (1 + i) s) shp in-shp (omega arith)));
+        record-within = rw (offset, extent) (omega (arith, stands-within (2 * w) (recordBytes own (1 + i) s) shp in-shp (omega arith)));
       }
 
   holds : HoldsShape kind shp shx (1 + i) s
   holds =
       rw (offset, extent)
-      (field-stands (2 * w + 8) (content kind s) shp (2 * shapeWords s) (length-content kind s of-kind) (in-content kind (1 + i) s shp (2 * w) in-shp))
+      (field-stands (2 * w + 8) (content own s) shp (2 * shapeWords s) (length-content own s of-kind) (in-content own (1 + i) s shp (2 * w) in-shp))
 
 module _ (kind : Kind) (box : Box) (ss : List Shape) (shp shx : List ℕ) (f : FileOf kind box ss shp shx) (k : ℕ) (h : 1 ≤ k) (j : k ≤ length ss) where
   number : 1 + (k - 1) ≡ k

@@ -9,6 +9,7 @@ pub mod Entries
 pub mod First
 pub mod Forms
 pub mod Only
+pub mod Own
 pub mod Points
 pub mod ReadParts
 pub mod Record

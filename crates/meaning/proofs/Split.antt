@@ -7,15 +7,16 @@ use native.Mathlib.Nat.{add-zero, zero-add}
 use native.Mathlib.Omega.{arith}
 use lib.ListN.{length, drop, length-drop}
 use Rattle.format.specs.Encoding.{shapeWords, twoBig, recordBytes, recordsFrom, endFrom, HeldFrom}
-use Rattle.format.specs.Shapes.{Shape}
+use Rattle.format.specs.Shapes.{Shape, ownKind}
 use Rattle.format.proofs.ByteLaws.{AllBytes, all-drop}
 use Rattle.format.proofs.Equations.{records-nil, records-cons, end-nil, end-cons}
 use Rattle.format.proofs.Laid.{length-record}
 use Rattle.format.proofs.NumberLaws.{length-two}
 use Rattle.format.proofs.Records.{entriesBytes, entriesBytes-nil, entriesBytes-cons}
 use Rattle.rules.specs.Meaning.{AllWellFormed}
-use Rattle.rules.specs.Rules.{Taken, wordsOf, size, recordFault}
+use Rattle.rules.specs.Rules.{Taken, wordsOf, ownTaken, size, recordFault}
 use Rattle.rules.proofs.FaultLaws.{Fine, fine}
+use Rattle.meaning.proofs.Own.{own-well, field-known, kind-read}
 use Rattle.meaning.proofs.Record.{encodable, shape, shaped, record-stands, entry-stands}
 use Rattle.meaning.proofs.Table.{Known}
 
@@ -44,24 +45,27 @@ at-once t l x w n h =
     }
 
 module _ (t : Taken) (known : Known t) where
-  one-more : (l x : List ℕ) (w n : ℕ) → AllBytes l → AllBytes x → Fine t l x (2 * w) n
+  one-more : (l x : List ℕ) (w n : ℕ) → AllBytes l → AllBytes x → Fine (ownTaken t l) l x (2 * w) n
       → Split t (drop (size l) l) (drop 8 x) (w + (4 + wordsOf l)) (n + 1) → Split t l x w n
   one-more l x w n b bx f more =
-      let s : Shape = shape t known l x w n b bx f in
-      let g = encodable t known l x w n b bx f in
-      let words : wordsOf l ≡ shapeWords s = shaped t known l x w n b bx f .words in
+      let own : Taken = ownTaken t l in
+      let of = field-known t l known in
+      let s : Shape = shape own of l x w n b bx f in
+      let g = encodable own of l x w n b bx f in
+      let words : wordsOf l ≡ shapeWords s = shaped own of l x w n b bx f .words in
       let m : Split t (drop (8 + 2 * shapeWords s) l) (drop 8 x) (w + (4 + shapeWords s)) (n + 1) = rw words at more in
-      let lr : length (recordBytes (t .kind) n s) ≡ 8 + 2 * shapeWords s = length-record (t .kind) n s (g .of-kind) in
+      let kind : ownKind (t .kind) s ≡ own .kind = kind-read t l known (f .code) in
+      let lr : length (recordBytes (own .kind) n s) ≡ 8 + 2 * shapeWords s = length-record (own .kind) n s (g .of-kind) in
       let lt : length (twoBig w (shapeWords s)) ≡ 8 = length-two w (shapeWords s) in
       let number : n + suc (length (m .shapes)) ≡ n + 1 + length (m .shapes) = omega arith in
       record {
         shapes = s ∷ m .shapes;
         rest = m .rest;
         left = m .left;
-        fine = (g .of-kind, g .well, m .fine);
+        fine = (rw kind (g .of-kind), own-well (t .kind) s (rw kind (g .well)), m .fine);
         held = (g .number-held, g .word-held, g .words-held, g .parts-held, g .points-held, m .held);
-        file = rw (records-cons (t .kind) n s (m .shapes), append-assoc, m .file) (rw (lr, zero-add) at (record-stands t known l x w n b bx f .here));
-        entries = rw (entriesBytes-cons w s (m .shapes), append-assoc, m .entries) (rw lt at (entry-stands t known l x w n b bx f .here));
+        file = rw (records-cons (t .kind) n s (m .shapes), kind, append-assoc, m .file) (rw (lr, zero-add) at (record-stands own of l x w n b bx f .here));
+        entries = rw (entriesBytes-cons w s (m .shapes), append-assoc, m .entries) (rw lt at (entry-stands own of l x w n b bx f .here));
         stop = rw (end-cons w s (m .shapes), number) (m .stop);
       }
 

@@ -1,4 +1,4 @@
--- The first rule that is broken, by where the rules are parted: P1 to P3 before the others of the headers, and a record's head before its shape.
+-- The first rule that is broken, by where the rules are parted: P1 to P3 before the others of the headers, and a record's head before its content.
 use mathlib.Core.Path.{_≡_, refl}
 use mathlib.Core.List.{List}
 use Prim.Native.Nat.{ℕ}
@@ -7,7 +7,7 @@ use lib.ListN.{take, drop}
 use Rattle.format.specs.Kinds.{kindAt}
 use Rattle.format.specs.Order.{first}
 use Rattle.format.proofs.OrderLaws.{no-fault-then, fault-first}
-use Rattle.rules.specs.Rules.{Taken, littleAt, takenOf, takenIn, headersRules, headersFault, headRules, shapeRules, recordFault}
+use Rattle.rules.specs.Rules.{Taken, littleAt, takenOf, takenIn, headersRules, headersFault, headRules, ownTaken, contentRules, recordFault}
 
 module _ (shp shx : List ℕ) where
   pub front-first : (r : ℕ) → first (take 3 (headersRules shp shx)) 0 ≡ r → (r ≡ 0 → ⊥) → headersFault shp shx ≡ r
@@ -24,10 +24,10 @@ unfolding takenIn
 taken-is shp = refl
 
 module _ (t : Taken) (l x : List ℕ) (at k : ℕ) where
-  pub head-first : (r : ℕ) → first (headRules t l x at k) 0 ≡ r → (r ≡ 0 → ⊥) → recordFault t l x at k ≡ r
+  pub head-first : (r : ℕ) → first (headRules (t .kind) l x at k) 0 ≡ r → (r ≡ 0 → ⊥) → recordFault t l x at k ≡ r
   unfolding recordFault
-  head-first r e n = fault-first (headRules t l x at k) (shapeRules t l) r e n
+  head-first r e n = fault-first (headRules (t .kind) l x at k) (contentRules (ownTaken t l) l) r e n
 
-  pub then-shape : first (headRules t l x at k) 0 ≡ 0 → recordFault t l x at k ≡ first (shapeRules t l) 0
+  pub then-content : first (headRules (t .kind) l x at k) 0 ≡ 0 → recordFault t l x at k ≡ first (contentRules (ownTaken t l) l) 0
   unfolding recordFault
-  then-shape e = no-fault-then (headRules t l x at k) tt e (shapeRules t l)
+  then-content e = no-fault-then (headRules (t .kind) l x at k) tt e (contentRules (ownTaken t l) l)

@@ -6,12 +6,12 @@ use native.Mathlib.Nat.{le-refl}
 use native.Mathlib.Omega.{arith}
 use lib.ListN.{length, drop, length-drop, drop-of-length-le}
 use Rattle.format.specs.Said.{gives, fault}
-use Rattle.rules.specs.Rules.{Taken, Counts, partsOf, pointsOf, recordFault, finish, orOn, size, walk, walkFrom}
+use Rattle.rules.specs.Rules.{Taken, Counts, ownTaken, partsOf, pointsOf, recordFault, finish, orOn, size, walk, walkFrom}
 use Rattle.rules.proofs.VerdictLaws.{fault-on, finish-gives, over-left}
 
 -- the counts behind one more record
 abbrev pub next : Taken → List ℕ → Counts → Counts
-next t l c = record { records = c .records + 1; parts = c .parts + partsOf (t .form) l; points = c .points + pointsOf (t .form) l }
+next t l c = record { records = c .records + 1; parts = c .parts + partsOf (ownTaken t l .form) l; points = c .points + pointsOf (ownTaken t l .form) l }
 
 -- a walk is the same with any fuel that is enough
 same : (f g : ℕ) (t : Taken) (l x : List ℕ) (at : ℕ) (c : Counts) → length l ≤ f → length l ≤ g → walk f t l x at c ≡ walk g t l x at c
