@@ -12,7 +12,7 @@ use lib.ListN.{length, getD}
 use lib.Pow.{pow-pos}
 use mir.Syntax.{w32}
 use mir.Val.{SFits, ofZ}
-use borrow.Author.Tests.{ltb-true, ltb-false}
+use borrow.Author.Tests.{ltb-true, ltb-false, eqb-true}
 use Rattle.format.specs.declared.kinds.Kind.{Kind}
 use Rattle.format.specs.declared.lengths.Content.{Content}
 use Rattle.format.specs.declared.lengths.Content.the-variants.{Taken, NotTaken, Unknown}
@@ -24,6 +24,7 @@ use Rattle.format.specs.declared.units.Words.{Words}
 use Rattle.format.specs.Kinds.{nullKind, kinds, rowOf, kindAt}
 use Rattle.format.specs.Lengths.{Form, nothing, onePoint, parts, formOf, fixedWords, pointWords, contentWords, lengthsFor, lengthsOf, saidContent, orNotTaken, lengthsIn, contentOf, formulaWords, saidCounted, counted}
 use Rattle.format.specs.Said.{Said, gives, unknown, notTaken, long}
+use Rattle.format.specs.Shapes.{Shape, null, point, parted, OfKind, ownKind}
 use Rattle.format.specs.Units.{sameInt}
 use Rattle.format.proofs.KindLaws.{code-is, of-table}
 use Rattle.format.proofs.UnitLaws.{same-no, by-bits}
@@ -174,6 +175,19 @@ null-row = refl
 pub null-form : formOf nullKind ≡ some nothing
 unfolding formOf
 null-form = refl
+
+-- and no other has code 0
+pub null-kind : (z : ℤ) (k : Kind) → kindAt z ≡ some k → eqb (k .code) 0 ≡ true → k ≡ nullKind
+null-kind z k e h =
+    let n : kindAt z ≡ some nullKind = ap kindAt (code-is z k e ∙ ap pos (eqb-true (k .code) 0 h)) ∙ null-row in
+    cc
+
+-- ---- the kind of a shape's own record, in a file of its kind or, where it is Null, of any
+
+pub own-kind : (z : ℤ) (k file : Kind) (s : Shape) → kindAt z ≡ some k → OfKind k s → (eqb (k .code) 0 ≡ false → file ≡ k) → ownKind file s ≡ k
+own-kind z k file null e o same = sym (null-kind z k e (form-flags z k nothing e o .0))
+own-kind z k file (point xy v w) e o same = same (form-flags z k onePoint e (o .form) .0)
+own-kind z k file (parted s) e o same = same (form-flags z k parts e (o .form) .0)
 
 -- ---- what a formula comes to
 
