@@ -1,13 +1,13 @@
 -- An add that was taken passed every test: what follows of its kind, of the shape that was lent, and of the next state.
-use mathlib.Core.Path.{_≡_, refl}
-use mathlib.Core.Bool.{Bool, true, false, not, _||_}
+use mathlib.Core.Path.{_≡_, refl, sym, ap, _∙_, subst}
+use mathlib.Core.Bool.{Bool, true, false, _&&_, _||_, not}
 use mathlib.Core.List.{List, [], _∷_}
 use mathlib.Core.Option.{Option, none, some}
 use Prim.Native.Nat.{ℕ, _+_, _*_, _-_, _^_, _≤_, _<_}
 use native.Mathlib.Omega.{arith}
-use lib.Dec.{eqb}
+use lib.Dec.{T, eqb}
 use lib.Ieee.{Float}
-use lib.IntN.{pos, natAbs}
+use lib.IntN.{ℤ, pos, natAbs}
 use lib.ListN.{length}
 use borrow.Author.Tests.{ltb-true, not-true, le-leb}
 use Rattle.format.specs.declared.kinds.Kind.{Kind}
@@ -16,10 +16,11 @@ use Rattle.format.specs.Kinds.{kindAt, kindOr}
 use Rattle.format.specs.Lengths.{Form, nothing, onePoint, formOf, formIn, formAt}
 use Rattle.format.specs.Lengths
 use Rattle.format.specs.Said.{gives}
-use Rattle.format.specs.Shapes.{Shape, there, OfKind, partsIn, pointsIn, sum}
+use Rattle.format.specs.Shapes.{Shape, there, OfKind, ownKind, partsIn, pointsIn, sum}
 use Rattle.format.specs.Units.{sameInt}
 use Rattle.format.proofs.Equations.{parts-null, points-null, parts-point, points-point}
 use Rattle.format.proofs.KindLaws.{code-is}
+use Rattle.format.proofs.LengthLaws.{Flags, form-flags, own-kind}
 use Rattle.format.proofs.OrderLaws.{both-true, passed}
 use Rattle.format.proofs.Records.{shape-least}
 use Rattle.format.proofs.UnitLaws.{same-is}
@@ -27,7 +28,7 @@ use Rattle.layouts.specs.Answers.{countsHeld}
 use Rattle.layouts.specs.Steps.{Agreed}
 use Rattle.layouts.proofs.TableLaws.{agreed, parts-in, points-in, parts-of-kind}
 use Rattle.writer.specs.declared.State.{State}
-use Rattle.writer.specs.Adding.{Lent, formOr, lentKind, lentForm, pointShape, lentShape, lentAgree, wordsThen, recordSize, addTests, nextState, addingOf}
+use Rattle.writer.specs.Adding.{Lent, formOr, lentKind, lentForm, pointShape, lentShape, lentAgree, wordsThen, recordSize, addTests, kindThen, nextState, addingOf}
 use Rattle.writer.specs.State.{isZero, stateFine}
 use Rattle.writer.proofs.ShapeLaws.{lent-nothing, lent-point, lent-parts, there-value}
 use Rattle.writer.proofs.StateLaws.{Fine, fine}
@@ -36,8 +37,8 @@ pub record Accepted (s : State) (t : Lent) : Type 0 where
   pub fine : Fine s
   pub kind : kindAt (t .code) ≡ some (lentKind t)
   pub form : formOf (lentKind t) ≡ some (lentForm t)
-  pub not-null : isZero (t .code) ≡ false
-  pub same-kind : isZero (s .kind) || sameInt (s .kind) (t .code) ≡ true
+  pub not-first : isZero (t .code) && isZero (s .kind) ≡ false
+  pub same-kind : isZero (s .kind) || isZero (t .code) || sameInt (s .kind) (t .code) ≡ true
   pub agree : lentAgree t ≡ true
   pub counts-held : countsHeld (t .counts) ≡ true
   pub held : wordsThen s t < 2 ^ 31
@@ -55,14 +56,14 @@ pub accepted : (s : State) (t : Lent) (out start entry n : ℕ) → addingOf s t
 unfolding addingOf
 accepted s t out start entry n e =
     let ok = passed (recordSize t) n (addTests s t out start entry) tt e in
-    let taken = both-true (there (formAt (t .code))) (not (isZero (t .code))) (ok 2) in
+    let taken = both-true (there (formAt (t .code))) (not (isZero (t .code) && isZero (s .kind))) (ok 2) in
     let found = kind-there (kindAt (t .code)) (taken .0) in
     let held = both-true _ _ (ok 5) in
     record {
       fine = fine s (ok 0);
       kind = found .0;
       form = found .1;
-      not-null = not-true _ (taken .1);
+      not-first = not-true _ (taken .1);
       same-kind = ok 3;
       agree = ok 4;
       counts-held = held .0;
@@ -115,14 +116,46 @@ module _ (s : State) (t : Lent) (a : Accepted s t) where
             points-held = rw (points-in (k .z) (k .m) (t .box) (t .counts) (t .xy) (t .zs) (t .ms) (u .xy-has)) (ltb-true _ _ (held .1));
           })
 
-  -- ---- the state: behind a record it has the kind that is added, and the next one is a writer state again
+  -- ---- the next state: its kind is the one that is added, or the one before a Null, and it is a writer state again
 
-  pub kind-stays : (natAbs (s .number) ≡ 1 → ⊥) → s .kind ≡ t .code
-  kind-stays h = go (isZero (s .kind)) refl (a .same-kind)
+  flags : Flags (lentKind t) (lentForm t)
+  flags = form-flags (t .code) (lentKind t) (lentForm t) (a .kind) (a .form)
+
+  is-zero : isZero (t .code) ≡ eqb (lentKind t .code) 0
+  is-zero = ap isZero code
+
+  -- what holds of the kind before a Null, and of another that is added, holds of the next
+  kind-next : (P : ℤ → Type 0) → (isZero (t .code) ≡ true → P (s .kind)) → (isZero (t .code) ≡ false → P (t .code)) → P (nextState s t .kind)
+  unfolding nextState
+  kind-next P stays own = go (lentForm t) flags
     where
-      go : (b : Bool) → isZero (s .kind) ≡ b → b || sameInt (s .kind) (t .code) ≡ true → s .kind ≡ t .code
+      go : (form : Form) → Flags (lentKind t) form → P (kindThen form s t)
+      go nothing f = stays (is-zero ∙ f .0)
+      go onePoint f = own (is-zero ∙ f .0)
+      go Lengths.parts f = own (is-zero ∙ f .0)
+
+  next-taken : there (formAt (nextState s t .kind)) ≡ true
+  next-taken = kind-next (λ (z : ℤ). there (formAt z) ≡ true) (λ e. a .fine .kind-taken) (λ e. rw (a .kind, a .form))
+
+  next-set : isZero (nextState s t .kind) ≡ false
+  next-set = kind-next (λ (z : ℤ). isZero z ≡ false) (λ e. rw e at (a .not-first)) (λ e. e)
+
+  pub kind-named : kindAt (nextState s t .kind) ≡ some (kindOr (kindAt (nextState s t .kind)))
+  kind-named = kind-there (kindAt (nextState s t .kind)) next-taken .0
+
+  -- behind another record the state has its kind
+  pub kind-stays : (natAbs (s .number) ≡ 1 → ⊥) → nextState s t .kind ≡ s .kind
+  kind-stays h = kind-next (λ (z : ℤ). z ≡ s .kind) (λ e. refl) (λ e. sym (go (isZero (s .kind)) refl (rw e at (a .same-kind))))
+    where
+      go : (b : Bool) → isZero (s .kind) ≡ b → b || false || sameInt (s .kind) (t .code) ≡ true → s .kind ≡ t .code
       go true e p = absurd (h (a .fine .at-start e))
       go false e p = same-is (s .kind) (t .code) p
+
+  -- the record's kind is the shape's own in a file of the next state's
+  pub own-next : ownKind (kindOr (kindAt (nextState s t .kind))) (lentShape t) ≡ lentKind t
+  own-next =
+      own-kind (t .code) (lentKind t) (kindOr (kindAt (nextState s t .kind))) (lentShape t) (a .kind) (shape-fits .of-kind)
+      (λ h. kind-next (λ (z : ℤ). kindOr (kindAt z) ≡ lentKind t) (λ e. absurd (subst T (sym e ∙ (is-zero ∙ h)) tt)) (λ e. refl))
 
   pub next-room : 50 + 6 * natAbs (s .number) ≤ wordsThen s t
   next-room = omega (arith, a .fine .room, a .fine .number-least, shape-least (lentShape t))
@@ -133,5 +166,4 @@ module _ (s : State) (t : Lent) (a : Accepted s t) where
       let n = natAbs (s .number) in
       let least : 50 ≤ wordsThen s t = omega (arith, next-room) in
       let room : 50 + 6 * (n + 1 - 1) ≤ wordsThen s t = omega (arith, next-room) in
-      let taken : there (formAt (t .code)) ≡ true = rw (a .kind, a .form) in
-      rw (le-leb 50 (wordsThen s t) least, le-leb 1 (n + 1) (omega arith), taken, le-leb (50 + 6 * (n + 1 - 1)) (wordsThen s t) room, a .not-null)
+      rw (le-leb 50 (wordsThen s t) least, le-leb 1 (n + 1) (omega arith), next-taken, le-leb (50 + 6 * (n + 1 - 1)) (wordsThen s t) room, next-set)

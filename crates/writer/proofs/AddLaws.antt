@@ -1,10 +1,10 @@
 -- Laws of adding a record that passed every test: what its writers ask, and that what they leave is what document 01 says.
 use mathlib.Core.Path.{_≡_, refl, sym, ap, _∙_, subst}
-use mathlib.Core.Bool.{true}
+use mathlib.Core.Bool.{true, cond}
 use mathlib.Core.List.{List}
 use Prim.Native.Nat.{ℕ, _+_, _*_, _-_, _^_, _≤_, _<_}
 use native.Mathlib.Omega.{arith}
-use lib.Dec.{T}
+use lib.Dec.{T, eqb}
 use lib.IntN.{pos, natAbs}
 use lib.ListN.{length}
 use lib.Seq.{sets}
@@ -14,14 +14,16 @@ use Rattle.format.specs.declared.kinds.Kind.{Kind}
 use Rattle.format.specs.declared.units.Bytes.{Bytes}
 use Rattle.format.specs.declared.units.Words.{Words}
 use Rattle.format.specs.Encoding.{shapeWords, recordBytes, twoBig}
+use Rattle.format.specs.Lengths.{Form, nothing, onePoint, parts}
 use Rattle.format.specs.Said.{unlessRefused}
 use Rattle.format.proofs.KindLaws.{code-is, z-has-m}
+use Rattle.format.proofs.LengthLaws.{Flags, form-flags}
 use Rattle.writer.specs.declared.State.{State}
 use Rattle.writer.specs.declared.AddAnswer.{AddAnswer}
 use Rattle.writer.specs.declared.AddAnswer.the-variants.{Added, Size, Unknown, NotTaken, Mismatch, Tables, Long, Room}
-use Rattle.writer.specs.Adding.{Lent, lentShape, recordSize, recordOf, entryOf, heldBox, nextState, saidAdd, Adds}
-use Rattle.writer.specs.Boxes.{grown, ownBox}
-use Rattle.writer.specs.Judging.{naturalOf, wordsOf, Whole, isRefused, shapeBy, wordsBy, AllPassed, AllRefused, Ready, nextBy}
+use Rattle.writer.specs.Adding.{Lent, lentShape, recordSize, recordOf, entryOf, heldBox, kindThen, boxThen, nextState, saidAdd, Adds}
+use Rattle.writer.specs.Boxes.{grown}
+use Rattle.writer.specs.Judging.{naturalOf, wordsOf, Whole, isRefused, formBy, shapeBy, wordsBy, AllPassed, AllRefused, Ready, boxBy, nextBy}
 use Rattle.writer.proofs.LengthLaws.{whole-bytes}
 use Rattle.writer.proofs.ShapeLaws.{lent-kind, lent-form, shape-is, words-are}
 use Rattle.writer.proofs.StateLaws.{Fine, fine, number-natural}
@@ -77,15 +79,32 @@ module _ (s : State) (t : Lent) (out start entry : ℕ) (k : Kind) (w after : Wo
   pub next-number : naturalOf (s .number) + 1 < 2 ^ 31
   next-number = omega (arith, p .shape .held, numbers .room, number-natural s numbers)
 
+  flags : Flags k (formBy k)
+  flags = form-flags (t .code) k (formBy k) (p .shape .of-code .kind-is) (rw (p .shape .of-code .kind-is) at (p .shape .of-code .form-is))
+
+  -- the kind and the box, by the form
+  kind-then : (form : Form) → Flags k form → cond (eqb (k .code) 0) (s .kind) (t .code) ≡ kindThen form s t
+  kind-then nothing f = rw (f .0)
+  kind-then onePoint f = rw (f .0)
+  kind-then parts f = rw (f .0)
+
+  box-then : (form : Form) → Flags k form → cond (eqb (k .code) 0) (s .bbox) (grown (boxBy k (t .box) (t .xy) (t .zs) (t .ms)) (heldBox s)) ≡ boxThen form s t
+  box-then nothing f = rw (f .0)
+  box-then onePoint f = rw (f .0, f .1, p .shape .of-code .kind-is)
+  box-then parts f = rw (f .0, f .1, p .shape .of-code .kind-is)
+
   pub next-is : nextBy s after (t .code) k (t .box) (t .xy) (t .zs) (t .ms) ≡ nextState s t
   unfolding nextState
   next-is =
+      let form = sym (lent-form t k (p .shape .of-code)) in
+      let kind = kind-then (formBy k) flags ∙ ap (λ (f : Form). kindThen f s t) form in
+      let bbox = box-then (formBy k) flags ∙ ap (λ (f : Form). boxThen f s t) form in
       λ i.
       record {
         words = p .shape .after-is i;
         number = pos (number-natural s numbers i + 1);
-        kind = t .code;
-        bbox = grown (ownBox (sym (lent-kind t k (p .shape .of-code)) i) (sym (lent-form t k (p .shape .of-code)) i) (t .box) (t .xy) (t .zs) (t .ms)) (heldBox s);
+        kind = kind i;
+        bbox = bbox i;
       }
 
   number-bits : ofZ w32 (s .number) ≡ natAbs (s .number)

@@ -4,6 +4,7 @@ use mathlib.Core.Bool.{Bool, true, false, cond}
 use mathlib.Core.List.{List, [], _∷_, _++_, append-nil}
 use Prim.Native.Nat.{ℕ, _+_, _*_, _≤_}
 use native.Mathlib.Omega.{arith}
+use lib.Dec.{eqb}
 use lib.Ieee.{Float}
 use lib.IntN.{ℤ, pos}
 use lib.ListN.{length}
@@ -18,7 +19,7 @@ use Rattle.format.specs.Numbers.{little, f64sLe}
 use Rattle.format.specs.Said.{Said, gives, unlessRefused}
 use Rattle.format.specs.Shapes.{Shape, sum}
 use Rattle.format.proofs.Equations as Equations
-use Rattle.format.proofs.Equations.{f64Le-is, f64sLe-nil, f64sLe-cons, words-are, fixed-point, each-point, pointBytes-is, shape-point, shape-parted, content-bytes}
+use Rattle.format.proofs.Equations.{f64Le-is, f64sLe-nil, f64sLe-cons, words-are, fixed-point, each-point, pointBytes-is, shape-null, shape-point, shape-parted, content-bytes}
 use Rattle.format.proofs.LengthLaws.{some-words}
 use Rattle.header.specs.declared.bbox.BBoxZ.{BBoxZ}
 use Rattle.layouts.specs.declared.LayoutAnswer.{LayoutAnswer}
@@ -55,17 +56,17 @@ module _ (k : Kind) (b : BBoxZ) (counts : List ℕ) (xy zs ms : List Float) wher
     all = tables k counts xy zs ms (r .agrees)
 
     -- what the point's writer asks
-    pub point-room : k .parts ≡ false → (length xy ≡ 2) × (16 + 8 * length zs + 8 * length ms ≤ bytes)
-    point-room e =
-        let x : length xy ≡ 2 = rw e at (all .xy-has) in
-        let z : length zs ≡ cond (k .z) 1 0 = rw e at (all .zs-has) in
-        let m : length ms ≡ cond (k .m) 1 0 = rw e at (all .ms-has) in
-        let w : 2 * contentWords onePoint (k .z) (k .m) (length counts) 1 ≤ 4 + bytes = rw e at (r .room) in
+    pub point-room : k .parts ≡ false → eqb (k .code) 0 ≡ false → (length xy ≡ 2) × (16 + 8 * length zs + 8 * length ms ≤ bytes)
+    point-room e f =
+        let x : length xy ≡ 2 = rw (e, f) at (all .xy-has) in
+        let z : length zs ≡ cond (k .z) 1 0 = rw (e, f) at (all .zs-has) in
+        let m : length ms ≡ cond (k .m) 1 0 = rw (e, f) at (all .ms-has) in
+        let w : 2 * contentWords onePoint (k .z) (k .m) (length counts) 1 ≤ 4 + bytes = rw (e, f) at (r .room) in
         let v : 2 * (10 + cond (k .z) 4 0 + cond (k .m) 4 0 + 2 * length counts + 0 * 1) ≤ 4 + bytes = rw (words-are, fixed-point, each-point) at w in
         (x, omega (arith, given (k .z), given (k .m)))
 
-    pub point-body : k .parts ≡ false → f64sLe xy ++ (f64sLe zs ++ f64sLe ms) ≡ shapeBytes (shapeBy k b counts xy zs ms)
-    point-body e = rw e (sym (point-bytes k xy zs ms (rw e at (all .xy-has)) (rw e at (all .zs-has)) (rw e at (all .ms-has))))
+    pub point-body : k .parts ≡ false → eqb (k .code) 0 ≡ false → f64sLe xy ++ (f64sLe zs ++ f64sLe ms) ≡ shapeBytes (shapeBy k b counts xy zs ms)
+    point-body e f = rw (e, f) (sym (point-bytes k xy zs ms (rw (e, f) at (all .xy-has)) (rw (e, f) at (all .zs-has)) (rw (e, f) at (all .ms-has))))
 
     pub no-z : k .z ≡ false → zs ≡ []
     no-z e = empty zs (rw e at (all .zs-has))
@@ -73,7 +74,10 @@ module _ (k : Kind) (b : BBoxZ) (counts : List ℕ) (xy zs ms : List Float) wher
     pub no-m : k .m ≡ false → ms ≡ []
     no-m e = empty ms (rw e at (all .ms-has))
 
-  -- ---- parts
+  -- ---- Null, and parts
+
+  pub null-body : k .parts ≡ false → eqb (k .code) 0 ≡ true → shapeBytes (shapeBy k b counts xy zs ms) ≡ []
+  null-body e f = rw (e, f) shape-null
 
   module _ (out : List ℕ) (r : Ready k counts xy zs ms (length out)) (e : k .parts ≡ true) where
     gives-all : layoutOf (k .z) (k .m) counts xy zs ms (length out) ≡ gives (bodySize (k .z) (k .m) (length counts) (sum counts))

@@ -1,6 +1,6 @@
 -- Laws of the judge of state and kind: which test each of its answers is about.
 use mathlib.Core.Path.{_≡_, refl, sym, ap, _∙_}
-use mathlib.Core.Bool.{true, false, _||_}
+use mathlib.Core.Bool.{Bool, true, false, _&&_, _||_, not}
 use mathlib.Core.Option.{Option, none, some}
 use Prim.Native.Nat.{ℕ, _^_, _<_}
 use native.Mathlib.Omega.{arith}
@@ -13,11 +13,11 @@ use borrow.Author.Tests.{eq-eqb, ne-eqb}
 use Rattle.format.specs.declared.kinds.Kind.{Kind}
 use Rattle.format.specs.declared.lengths.Formula.{Formula}
 use Rattle.format.specs.Kinds.{known, kindAt}
-use Rattle.format.specs.Lengths.{Form, formOf, formula, formAt}
+use Rattle.format.specs.Lengths.{Form, nothing, onePoint, parts, formOf, formula, formAt}
 use Rattle.format.specs.Shapes.{there}
 use Rattle.format.specs.Units.{sameInt}
 use Rattle.format.proofs.KindLaws.{code-is, known-there}
-use Rattle.format.proofs.LengthLaws.{form-by}
+use Rattle.format.proofs.LengthLaws.{Flags, form-flags}
 use Rattle.writer.specs.declared.State.{State}
 use Rattle.writer.specs.declared.AddAnswer.the-variants.{Size, Unknown, NotTaken, Mismatch}
 use Rattle.writer.specs.declared.states.Looked.the-variants as LookedIs
@@ -35,14 +35,16 @@ pub zero-no : (z : ℤ) → (ofZ w32 z ≡ 0 → ⊥) → isZero z ≡ false
 zero-no (pos n) e = ne-eqb n 0 e
 zero-no (negsuc n) e = refl
 
--- ---- the kind's form: parts or one point, where the code is not 0
+-- ---- the kind's form
 
 looked-form : (k : Kind) (f : Formula) (o : Option Form) → byForm k o ≡ LookedIs.Taken k f → (form : Form) × (o ≡ some form) × (f ≡ formula form (k .z) (k .m))
 looked-form k f none e = absurd (let z : _≡_ {A = ℕ} 0 1 = cc in omega arith)
 looked-form k f (some form) e = (form, refl, cc)
 
-form-of : (k : Kind) (form : Form) → (k .code ≡ 0 → ⊥) → formOf k ≡ some form → form ≡ formBy k
-form-of k form h e = form-by k form e ∙ rw (ne-eqb (k .code) 0 h)
+form-of : (k : Kind) (form : Form) → Flags k form → form ≡ formBy k
+form-of k nothing f = rw (f .1, f .0)
+form-of k onePoint f = rw (f .1, f .0)
+form-of k parts f = rw (f .1)
 
 module _ (code : ℤ) where
   none-known : lookUp code ≡ LookedIs.Unknown → known code ≡ false
@@ -88,11 +90,14 @@ module _ (code : ℤ) where
     form-at : formAt code ≡ formOf k
     form-at = rw here
 
-    of-code : (k .code ≡ 0 → ⊥) → OfCode code k
-    of-code h = record { kind-is = here; form-is = form-at ∙ (formed .1 ∙ ap some (form-of k (formed .0) h (formed .1))) }
+    form-is : formed .0 ≡ formBy k
+    form-is = form-of k (formed .0) (form-flags code k (formed .0) here (formed .1))
 
-    formula-is : (k .code ≡ 0 → ⊥) → f ≡ formula (formBy k) (k .z) (k .m)
-    formula-is h = formed .2 ∙ ap (λ (x : Form). formula x (k .z) (k .m)) (form-of k (formed .0) h (formed .1))
+    of-code : OfCode code k
+    of-code = record { kind-is = here; form-is = form-at ∙ (formed .1 ∙ ap some form-is) }
+
+    formula-is : f ≡ formula (formBy k) (k .z) (k .m)
+    formula-is = formed .2 ∙ ap (λ (x : Form). formula x (k .z) (k .m)) form-is
 
 -- ---- the judge's answers
 
@@ -108,18 +113,27 @@ module _ (s : State) (code : ℤ) where
     no-taken e = record { refused = refl; says = λ more x. rw (fine, not-known code e, untaken code e) }
 
     module _ (k : Kind) (f : Formula) (e : lookUp code ≡ LookedIs.Taken k f) where
-      pub no-null : k .code ≡ 0 → KindRefused s code (NotTaken code)
-      no-null h = record { refused = refl; says = λ more x. rw (fine, is-known code k f e, is-taken code k f e, is-zero code k f e, eq-eqb (k .code) 0 h) }
+      pub no-null : k .code ≡ 0 → isZero (s .kind) ≡ true → KindRefused s code (NotTaken code)
+      no-null h p = record { refused = refl; says = λ more x. rw (fine, is-known code k f e, is-taken code k f e, is-zero code k f e, eq-eqb (k .code) 0 h, p) }
 
-      module _ (h : k .code ≡ 0 → ⊥) where
-        pub no-match : isZero (s .kind) ≡ false → sameInt (s .kind) code ≡ false → KindRefused s code (Mismatch (s .kind) code)
-        no-match p q = record { refused = refl; says = λ more x. rw (fine, is-known code k f e, is-taken code k f e, is-zero code k f e, ne-eqb (k .code) 0 h, p, q) }
+      pub no-match : (k .code ≡ 0 → ⊥) → isZero (s .kind) ≡ false → sameInt (s .kind) code ≡ false → KindRefused s code (Mismatch (s .kind) code)
+      no-match h p q = record { refused = refl; says = λ more x. rw (fine, is-known code k f e, is-taken code k f e, is-zero code k f e, ne-eqb (k .code) 0 h, p, q) }
 
-        pub kind-fine : isZero (s .kind) || sameInt (s .kind) code ≡ true → KindFine s code k f
-        kind-fine p =
-            record {
-              fine = fine;
-              passes = λ more x. rw (fine, is-known code k f e, is-taken code k f e, is-zero code k f e, ne-eqb (k .code) 0 h, p);
-              of-code = of-code code k f e h;
-              formula-is = formula-is code k f e h;
-            }
+      fine-by : (z p q : Bool) → eqb (k .code) 0 ≡ z → isZero (s .kind) ≡ p → sameInt (s .kind) code ≡ q → not (z && p) ≡ true → p || z || q ≡ true → KindFine s code k f
+      fine-by z p q u v w i j =
+          record {
+            fine = fine;
+            passes = λ more x. rw (fine, is-known code k f e, is-taken code k f e, is-zero code k f e, u, v, w, i, j);
+            of-code = of-code code k f e;
+            formula-is = formula-is code k f e;
+          }
+
+      -- a kind for a fresh state, Null among the records of a kind, and that kind again
+      pub first-fine : (k .code ≡ 0 → ⊥) → isZero (s .kind) ≡ true → KindFine s code k f
+      first-fine h p = fine-by false true _ (ne-eqb (k .code) 0 h) p refl refl refl
+
+      pub null-fine : k .code ≡ 0 → isZero (s .kind) ≡ false → KindFine s code k f
+      null-fine h p = fine-by true false _ (eq-eqb (k .code) 0 h) p refl refl refl
+
+      pub same-fine : (k .code ≡ 0 → ⊥) → isZero (s .kind) ≡ false → sameInt (s .kind) code ≡ true → KindFine s code k f
+      same-fine h p q = fine-by false false true (ne-eqb (k .code) 0 h) p q refl refl

@@ -1,4 +1,4 @@
--- What follows once a record is added: the next state's numbers and kind, and the headers of that state.
+-- What follows once a record is added: the next state's numbers, and the headers of that state.
 use mathlib.Core.Path.{_≡_, refl, ap}
 use Prim.Native.Nat.{ℕ, _+_, _*_}
 use native.Mathlib.Omega.{arith}
@@ -19,17 +19,13 @@ module _ (s : State) (t : Lent) where
   unfolding nextState
   number-next = refl
 
-  pub kind-next : nextState s t .kind ≡ t .code
-  unfolding nextState
-  kind-next = refl
-
   abbrev box : Box
   box = boxBits (settled (nextState s t .bbox))
 
-  pub shp-next : shpHeader (nextState s t) ≡ headerBytes (wordsThen s t) 1000 (natAbs (t .code)) box
+  pub shp-next : shpHeader (nextState s t) ≡ headerBytes (wordsThen s t) 1000 (natAbs (nextState s t .kind)) box
   unfolding shpHeader nextState
   shp-next = refl
 
-  pub shx-next : shxHeader (nextState s t) ≡ headerBytes (50 + 4 * natAbs (s .number)) 1000 (natAbs (t .code)) box
+  pub shx-next : shxHeader (nextState s t) ≡ headerBytes (50 + 4 * natAbs (s .number)) 1000 (natAbs (nextState s t .kind)) box
   unfolding shxHeader nextState
-  shx-next = ap (λ (w : ℕ). headerBytes w 1000 (natAbs (t .code)) box) (omega arith)
+  shx-next = ap (λ (w : ℕ). headerBytes w 1000 (natAbs (nextState s t .kind)) box) (omega arith)

@@ -14,7 +14,8 @@ use Rattle.format.specs.Kinds.{kindOr}
 use Rattle.format.specs.Lengths.{nothing, onePoint, parts, formula, contentWords, formulaWords}
 use Rattle.format.specs.Shapes.{null, parted, there}
 use Rattle.format.proofs.Equations as Equations
-use Rattle.format.proofs.Equations.{words-point}
+use Rattle.format.proofs.Equations.{words-null, words-point}
+use Rattle.format.proofs.KindLaws.{null-kind}
 use Rattle.header.specs.declared.bbox.BBoxZ.{BBoxZ}
 use Rattle.layouts.specs.Answers.{countsHeld}
 use Rattle.layouts.specs.Steps.{Agreed}
@@ -46,18 +47,20 @@ module _ (t : Lent) (k : Kind) (o : OfCode (t .code) k) where
   lent-form = ap formOr (o .form-is)
 
   pub agree-is : lentAgree t ≡ agreeBy k (t .counts) (t .xy) (t .zs) (t .ms)
-  agree-is = go (k .parts) refl
+  agree-is = go (k .parts) (eqb (k .code) 0) refl refl
     where
-      go : (p : Bool) → k .parts ≡ p → lentAgree t ≡ agreeBy k (t .counts) (t .xy) (t .zs) (t .ms)
-      go true e = rw (o .form-is, e, o .kind-is)
-      go false e = rw (o .form-is, e, o .kind-is)
+      go : (p z : Bool) → k .parts ≡ p → eqb (k .code) 0 ≡ z → lentAgree t ≡ agreeBy k (t .counts) (t .xy) (t .zs) (t .ms)
+      go true z e f = rw (o .form-is, e, o .kind-is)
+      go false true e f = rw (o .form-is, null-kind (t .code) k (o .kind-is) f)
+      go false false e f = rw (o .form-is, e, f, o .kind-is)
 
   pub shape-is : lentShape t ≡ shapeBy k (t .box) (t .counts) (t .xy) (t .zs) (t .ms)
-  shape-is = go (k .parts) refl
+  shape-is = go (k .parts) (eqb (k .code) 0) refl refl
     where
-      go : (p : Bool) → k .parts ≡ p → lentShape t ≡ shapeBy k (t .box) (t .counts) (t .xy) (t .zs) (t .ms)
-      go true e = lent-parts t (rw e at lent-form) ∙ rw (e, o .kind-is)
-      go false e = lent-point t (rw e at lent-form) ∙ rw (e, o .kind-is)
+      go : (p z : Bool) → k .parts ≡ p → eqb (k .code) 0 ≡ z → lentShape t ≡ shapeBy k (t .box) (t .counts) (t .xy) (t .zs) (t .ms)
+      go true z e f = lent-parts t (rw e at lent-form) ∙ rw (e, o .kind-is)
+      go false true e f = lent-nothing t (rw (e, f) at lent-form) ∙ rw (e, f)
+      go false false e f = lent-point t (rw (e, f) at lent-form) ∙ rw (e, f, o .kind-is)
 
 -- ---- tables that agree
 
@@ -90,18 +93,20 @@ point-words k (x ∷ y ∷ xy) zs ms e f g = rw (words-point, there-value (k .z)
 
 module _ (k : Kind) (b : BBoxZ) (counts : List ℕ) (xy zs ms : List Float) (e : agreeBy k counts xy zs ms ≡ true) where
   pub words-are : shapeWords (shapeBy k b counts xy zs ms) ≡ wordsBy k counts
-  words-are = go (k .parts) refl (tables k counts xy zs ms e)
+  words-are = go (k .parts) (eqb (k .code) 0) refl refl (tables k counts xy zs ms e)
     where
-      go : (p : Bool) → k .parts ≡ p → Agreed (k .z) (k .m) (pointsBy k counts) xy zs ms → shapeWords (shapeBy k b counts xy zs ms) ≡ wordsBy k counts
-      go true q a = rw q (parts-words (k .z) (k .m) b counts xy zs ms (rw q at (a .xy-has)))
-      go false q a = rw (q, no-parts k counts xy zs ms e q) (point-words k xy zs ms (rw q at (a .xy-has)) (rw q at (a .zs-has)) (rw q at (a .ms-has)))
+      go : (p z : Bool) → k .parts ≡ p → eqb (k .code) 0 ≡ z → Agreed (k .z) (k .m) (pointsBy k counts) xy zs ms → shapeWords (shapeBy k b counts xy zs ms) ≡ wordsBy k counts
+      go true z q r a = rw q (parts-words (k .z) (k .m) b counts xy zs ms (rw q at (a .xy-has)))
+      go false true q r a = rw (q, r, no-parts k counts xy zs ms e q) (words-null (k .z) (k .m))
+      go false false q r a = rw (q, r, no-parts k counts xy zs ms e q) (point-words k xy zs ms (rw (q, r) at (a .xy-has)) (rw (q, r) at (a .zs-has)) (rw (q, r) at (a .ms-has)))
 
   pub counts-held : ltb (length counts) (2 ^ 31) && ltb (pointsBy k counts) (2 ^ 31) ≡ countsHeld counts
-  counts-held = go (k .parts) refl
+  counts-held = go (k .parts) (eqb (k .code) 0) refl refl
     where
-      go : (p : Bool) → k .parts ≡ p → ltb (length counts) (2 ^ 31) && ltb (pointsBy k counts) (2 ^ 31) ≡ countsHeld counts
-      go true q = rw q
-      go false q = rw (q, no-parts k counts xy zs ms e q)
+      go : (p z : Bool) → k .parts ≡ p → eqb (k .code) 0 ≡ z → ltb (length counts) (2 ^ 31) && ltb (pointsBy k counts) (2 ^ 31) ≡ countsHeld counts
+      go true z q r = rw q
+      go false true q r = rw (q, r, no-parts k counts xy zs ms e q)
+      go false false q r = rw (q, r, no-parts k counts xy zs ms e q)
 
 pub formula-words : (k : Kind) (counts : List ℕ) → formulaWords (formula (formBy k) (k .z) (k .m)) (length counts) (pointsBy k counts) ≡ wordsBy k counts
 formula-words k counts = sym (Equations.words-are (formBy k) (k .z) (k .m) (length counts) (pointsBy k counts))

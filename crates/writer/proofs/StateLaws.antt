@@ -94,6 +94,7 @@ pub record Fine (s : State) : Type 0 where
   pub room : 50 + 6 * (natAbs (s .number) - 1) ≤ natAbs (s .words .0)
   pub kind-is : s .kind ≡ pos (natAbs (s .kind))
   pub kind-known : known (pos (natAbs (s .kind))) ≡ true
+  pub kind-taken : there (formAt (s .kind)) ≡ true
   pub at-start : isZero (s .kind) ≡ true → natAbs (s .number) ≡ 1
 
 pub fine : (s : State) → stateFine s ≡ true → Fine s
@@ -113,6 +114,7 @@ fine s e =
       room = leb-true _ _ (p3 .1);
       kind-is = k;
       kind-known = sym (ap known k) ∙ (known-there (s .kind) ∙ some-kind (kindAt (s .kind)) (sym (taken-is (s .kind)) ∙ p2 .1));
+      kind-taken = p2 .1;
       at-start = at-first (isZero (s .kind)) (natAbs (s .words .0)) (natAbs (s .number)) (p4 .1);
     }
 

@@ -12,52 +12,50 @@ use borrow.Author.Tests.{leb-true, leb-false, eq-eqb, ne-eqb}
 use Rattle.format.specs.declared.kinds.Kind.{Kind}
 use Rattle.format.specs.Shapes.{sum}
 use Rattle.writer.specs.declared.judge.TablesJudged.the-variants.{Agree, Disagree}
-use Rattle.writer.specs.Judging.{pointsBy, pointsWithin, tablesJudged}
+use Rattle.writer.specs.Judging.{single, pointsBy, pointsWithin, tablesJudged}
 
--- with p for whether there are parts, s for the sum of the counts and l for how many there are
-module _ (s l most n : ℕ) where
+-- with p for whether there are parts, s for the sum of the counts, l for how many there are and o for the points without parts
+module _ (s l o most n : ℕ) where
   by-sum : (b : Bool) → leb s most ≡ b → n ≡ min s (most + 1) → 2 * n ≡ most → n ≡ s
   by-sum true e h k = let a : s ≤ most + 1 = omega (arith, leb-true s most e) in h ∙ min-eq-left a
   by-sum false e h k = let a : most + 1 ≤ s = omega (arith, leb-false s most e) in absurd (let q : n ≡ most + 1 = h ∙ min-eq-right a in omega arith)
 
-  by-none : (b : Bool) → n ≡ cond b 1 (most + 1) → 2 * n ≡ most → (b ≡ true) × (n ≡ 1)
+  by-none : (b : Bool) → n ≡ cond b o (most + 1) → 2 * n ≡ most → (b ≡ true) × (n ≡ o)
   by-none true h k = (refl, h)
   by-none false h k = absurd (omega arith)
 
-  points-are : (p : Bool) → n ≡ cond p (min s (most + 1)) (cond (eqb l 0) 1 (most + 1)) → 2 * n ≡ most → (p || eqb l 0 ≡ true) × (n ≡ cond p s 1)
+  points-are : (p : Bool) → n ≡ cond p (min s (most + 1)) (cond (eqb l 0) o (most + 1)) → 2 * n ≡ most → (p || eqb l 0 ≡ true) × (n ≡ cond p s o)
   points-are true h k = (refl, by-sum (leb s most) refl h k)
   points-are false h k = by-none (eqb l 0) h k
 
   no-sum : n ≡ min s (most + 1) → (2 * n ≡ most → ⊥) → most ≡ 2 * s → ⊥
   no-sum h k e = let a : s ≤ most + 1 = omega arith in k (let q : n ≡ s = h ∙ min-eq-left a in omega arith)
 
-  no-one : (b : Bool) → n ≡ cond b 1 (most + 1) → (2 * n ≡ most → ⊥) → b && eqb most 2 ≡ false
-  no-one true h k = ne-eqb most 2 (λ e. k (omega arith))
+  no-one : (b : Bool) → n ≡ cond b o (most + 1) → (2 * n ≡ most → ⊥) → b && eqb most (2 * o) ≡ false
+  no-one true h k = ne-eqb most (2 * o) (λ e. k (omega arith))
   no-one false h k = refl
 
-  not-points : (p : Bool) → n ≡ cond p (min s (most + 1)) (cond (eqb l 0) 1 (most + 1)) → (2 * n ≡ most → ⊥) → (p || eqb l 0) && eqb most (2 * cond p s 1) ≡ false
+  not-points : (p : Bool) → n ≡ cond p (min s (most + 1)) (cond (eqb l 0) o (most + 1)) → (2 * n ≡ most → ⊥) → (p || eqb l 0) && eqb most (2 * cond p s o) ≡ false
   not-points true h k = ne-eqb most (2 * s) (no-sum h k)
   not-points false h k = no-one (eqb l 0) h k
 
-most-by : (p : Bool) (s l most : ℕ) → cond p (min s (most + 1)) (cond (eqb l 0) 1 (most + 1)) ≤ most + 1
-most-by true s l most = min-le-right s (most + 1)
-most-by false s l most = go (eqb l 0)
-  where
-    go : (b : Bool) → cond b 1 (most + 1) ≤ most + 1
-    go true = omega arith
-    go false = omega arith
+most-by : (p b z : Bool) (s most : ℕ) → cond p (min s (most + 1)) (cond b (cond z 0 1) (most + 1)) ≤ most + 1
+most-by true b z s most = min-le-right s (most + 1)
+most-by false true true s most = omega arith
+most-by false true false s most = omega arith
+most-by false false z s most = omega arith
 
 pub points-most : (k : Kind) (counts : List ℕ) (most : ℕ) → pointsWithin k counts most ≤ most + 1
-points-most k counts most = most-by (k .parts) (sum counts) (length counts) most
+points-most k counts most = most-by (k .parts) (eqb (length counts) 0) (eqb (k .code) 0) (sum counts) most
 
 -- the answers, by the number of points that the code has
 module _ (k : Kind) (counts : List ℕ) (xy zs ms : List Float) (n : ℕ) (e : n ≡ pointsWithin k counts (length xy)) where
   pub no-points : (2 * n ≡ length xy → ⊥) → Disagree ≡ tablesJudged k counts xy zs ms
-  no-points h = rw (not-points (sum counts) (length counts) (length xy) n (k .parts) e h)
+  no-points h = rw (not-points (sum counts) (length counts) (single k) (length xy) n (k .parts) e h)
 
   module _ (h : 2 * n ≡ length xy) where
     are : (k .parts || eqb (length counts) 0 ≡ true) × (n ≡ pointsBy k counts)
-    are = points-are (sum counts) (length counts) (length xy) n (k .parts) e h
+    are = points-are (sum counts) (length counts) (single k) (length xy) n (k .parts) e h
 
     has-xy : eqb (length xy) (2 * pointsBy k counts) ≡ true
     has-xy = eq-eqb _ _ (sym h ∙ ap (λ (m : ℕ). 2 * m) (are .1))

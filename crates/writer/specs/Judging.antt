@@ -16,10 +16,10 @@ use Rattle.format.specs.declared.units.Words.{Words}
 use Rattle.format.specs.declared.units.Bytes.{Bytes}
 use Rattle.format.specs.Kinds.{kindAt}
 use Rattle.format.specs.Encoding.{shapeWords}
-use Rattle.format.specs.Lengths.{Form, onePoint, parts, formOf, formula, contentWords, formAt, formulaWords}
+use Rattle.format.specs.Lengths.{Form, nothing, onePoint, parts, formOf, formula, contentWords, formAt, formulaWords}
 use Rattle.format.specs.Order.{first}
 use Rattle.format.specs.Said.{Said, gives}
-use Rattle.format.specs.Shapes.{Shape, parted, sum}
+use Rattle.format.specs.Shapes.{Shape, null, parted, sum}
 use Rattle.format.specs.Units.{inBytes}
 use Rattle.header.specs.declared.bbox.BBoxZ.{BBoxZ}
 use Rattle.layouts.specs.Answers.{countsHeld}
@@ -40,7 +40,7 @@ use Rattle.writer.specs.declared.judge.RoomJudged.the-variants.{Fits, Ne
 use Rattle.writer.specs.declared.judge.Judged.{Judged}
 use Rattle.writer.specs.declared.judge.Judged.the-variants as JudgedIs
 use Rattle.writer.specs.Adding.{Lent, pointShape, lentShape, wordsThen, recordSize, heldBox, kindTests, shapeTests, addingOf, saidAdd}
-use Rattle.writer.specs.Boxes.{grown, ownBox}
+use Rattle.writer.specs.Boxes.{grown, flat, pointBox}
 use Rattle.writer.specs.State.{stateFine}
 
 -- ---- numbers and kinds
@@ -88,17 +88,21 @@ abbrev pub countsFine : ℕ → ℕ → Bool → Bool
 countsFine words number first =
     leb 50 words && (leb 1 number && (leb (50 + 6 * (number - 1)) words && (not first || (eqb words 50 && eqb number 1))))
 
--- ---- a taken kind, not 0, has parts or one point; by it the shape, its points and its words
+-- ---- a taken kind has parts, nothing or one point; by it the shape, its points and its words
 
 abbrev pub formBy : Kind → Form
-formBy k = cond (k .parts) parts onePoint
+formBy k = cond (k .parts) parts (cond (eqb (k .code) 0) nothing onePoint)
+
+-- the points of a shape without parts
+abbrev pub single : Kind → ℕ
+single k = cond (eqb (k .code) 0) 0 1
 
 abbrev pub pointsBy : Kind → List ℕ → ℕ
-pointsBy k counts = cond (k .parts) (sum counts) 1
+pointsBy k counts = cond (k .parts) (sum counts) (single k)
 
 -- the same; one more than the most, where it is more or where the counts are no such shape's
 abbrev pub pointsWithin : Kind → List ℕ → ℕ → ℕ
-pointsWithin k counts most = cond (k .parts) (min (sum counts) (most + 1)) (cond (eqb (length counts) 0) 1 (most + 1))
+pointsWithin k counts most = cond (k .parts) (min (sum counts) (most + 1)) (cond (eqb (length counts) 0) (single k) (most + 1))
 
 abbrev pub agreeBy : Kind → List ℕ → List Float → List Float → List Float → Bool
 agreeBy k counts xy zs ms =
@@ -108,7 +112,9 @@ agreeBy k counts xy zs ms =
     && eqb (length ms) (cond (k .m) (pointsBy k counts) 0)
 
 abbrev pub shapeBy : Kind → BBoxZ → List ℕ → List Float → List Float → List Float → Shape
-shapeBy k b counts xy zs ms = cond (k .parts) (parted (partsOf (k .z) (k .m) b counts xy zs ms)) (pointShape k xy zs ms)
+shapeBy k b counts xy zs ms =
+    cond (k .parts) (parted (partsOf (k .z) (k .m) b counts xy zs ms))
+    (cond (eqb (k .code) 0) null (pointShape k xy zs ms))
 
 abbrev pub wordsBy : Kind → List ℕ → ℕ
 wordsBy k counts = contentWords (formBy k) (k .z) (k .m) (length counts) (pointsBy k counts)
@@ -197,11 +203,15 @@ pub record Ready (k : Kind) (counts : List ℕ) (xy zs ms : List Float) (bytes :
   pub counts-held : countsHeld counts ≡ true
   pub room : 2 * wordsBy k counts ≤ 4 + bytes
 
+-- the box that a record other than Null gives to the header
+abbrev pub boxBy : Kind → BBoxZ → List Float → List Float → List Float → BBoxZ
+boxBy k b xy zs ms = flat k (cond (k .parts) b (pointBox xy zs ms))
+
 abbrev pub nextBy : State → Words → ℤ → Kind → BBoxZ → List Float → List Float → List Float → State
 nextBy s after code k b xy zs ms =
     record {
       words = after;
       number = pos (naturalOf (s .number) + 1);
-      kind = code;
-      bbox = grown (ownBox k (formBy k) b xy zs ms) (heldBox s);
+      kind = cond (eqb (k .code) 0) (s .kind) code;
+      bbox = cond (eqb (k .code) 0) (s .bbox) (grown (boxBy k b xy zs ms) (heldBox s));
     }

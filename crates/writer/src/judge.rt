@@ -59,11 +59,16 @@ fn judge_kind(state: State, code: i32) -> KindJudged
         Looked::Unknown => KindJudged::Refused(AddAnswer::Unknown(code)),
         Looked::NotTaken => KindJudged::Refused(AddAnswer::NotTaken(code)),
         Looked::Taken(k, f) => {
-            if k.code == 0 {
-                return KindJudged::Refused(AddAnswer::NotTaken(code));
-            }
             let held = state.kind;
-            if held != 0 {
+            // a fresh state gets its kind from the record, and Null gives none
+            if held == 0 {
+                if k.code == 0 {
+                    return KindJudged::Refused(AddAnswer::NotTaken(code));
+                }
+                return KindJudged::Fine(k, f);
+            }
+            // Null may stand among the records of every kind
+            if k.code != 0 {
                 if held != code {
                     return KindJudged::Refused(AddAnswer::Mismatch(held, code));
                 }
@@ -90,7 +95,7 @@ fn summed(counts: &[u32], most: usize) -> usize
     total
 }
 
-// The points of the shape: a point kind has no parts and one point. More than the most, where the counts are no such shape's.
+// The points of the shape: without parts a Null has none and a point kind one. More than the most, where the counts are no such shape's.
 fn points(k: Kind, counts: &[u32], most: usize) -> usize
     requires { ⌜ most < 2 ^ 62 ⌝ }
     ensures { λ r. ⌜ r ≡ pointsWithin k (now (counts .entry)) most ⌝ }
@@ -98,7 +103,10 @@ fn points(k: Kind, counts: &[u32], most: usize) -> usize
     if k.parts {
         return summed(counts, most);
     }
-    if counts.len() == 0 { 1 } else { most + 1 }
+    if counts.len() != 0 {
+        return most + 1;
+    }
+    if k.code == 0 { 0 } else { 1 }
 }
 
 // The number where the flag is set, else 0.

@@ -10,8 +10,7 @@ ghost use mir.Val.{ofZ};
 ghost use Rattle.format.specs.Encoding.{shapeBytes, recordBytes, twoBig};
 ghost use Rattle.format.specs.Numbers.{f64sLe};
 ghost use Rattle.writer.specs.Adding.{heldBox};
-ghost use Rattle.writer.specs.Boxes.{ownBox};
-ghost use Rattle.writer.specs.Judging.{naturalOf, formBy, shapeBy, wordsOf, wordsBy, Ready, nextBy};
+ghost use Rattle.writer.specs.Judging.{naturalOf, shapeBy, wordsOf, wordsBy, boxBy, Ready, nextBy};
 use crate::State;
 use crate::states::natural;
 use format::kinds::Kind;
@@ -60,6 +59,10 @@ fn put_body(
     ensures { λ _. ⌜ now (out .exit) ≡ sets (now (out .entry)) 0 (shapeBytes (shapeBy k bbox (now (counts .entry)) (now (xy .entry)) (now (zs .entry)) (now (ms .entry)))) ⌝ }
 {
     if !k.parts {
+        // a Null's content is its kind alone
+        if k.code == 0 {
+            return;
+        }
         put_point(out, xy, zs, ms);
         return;
     }
@@ -98,9 +101,9 @@ pub(crate) fn put_record(
     put_body(&mut out[12..], k, bbox, counts, xy, zs, ms);
 }
 
-// The box that a record gives to the header.
+// The box that a record other than Null gives to the header.
 fn own_box(k: Kind, bbox: BBoxZ, xy: &[f64], zs: &[f64], ms: &[f64]) -> BBoxZ
-    ensures { λ r. ⌜ r ≡ ownBox k (formBy k) bbox (now (xy .entry)) (now (zs .entry)) (now (ms .entry)) ⌝ }
+    ensures { λ r. ⌜ r ≡ boxBy k bbox (now (xy .entry)) (now (zs .entry)) (now (ms .entry)) ⌝ }
 {
     if k.parts {
         return crate::boxes::flat_box(k, bbox);
@@ -118,7 +121,7 @@ fn held_box(state: State) -> BBoxZ
     state.bbox
 }
 
-// The state after the record, with which the file has so many words.
+// The state after the record, with which the file has so many words: Null leaves the kind and the box as they were.
 pub(crate) fn next_state(
     state: State,
     after: Words,
@@ -132,13 +135,22 @@ pub(crate) fn next_state(
     requires { ⌜ naturalOf (state .number) + 1 < 2 ^ 31 ⌝ }
     ensures { λ r. ⌜ r ≡ nextBy state after code k bbox (now (xy .entry)) (now (zs .entry)) (now (ms .entry)) ⌝ }
 {
+    let number = (natural(state.number) + 1) as i32;
+    if k.code == 0 {
+        let bounds = state.bbox;
+        return State {
+            words: after,
+            number,
+            kind: state.kind,
+            bbox: bounds,
+        };
+    }
     let own = own_box(k, bbox, xy, zs, ms);
     let held = held_box(state);
     let grown = crate::boxes::grow(own, held);
-    let number = natural(state.number) + 1;
     State {
         words: after,
-        number: number as i32,
+        number,
         kind: code,
         bbox: grown,
     }
