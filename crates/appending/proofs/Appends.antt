@@ -1,4 +1,4 @@
--- One record more behind the others: its number is one more than theirs, it stands where they end, and its kind is theirs.
+-- One record more behind the others: its number is one more than theirs, it stands where they end, and its kind is theirs or Null.
 use mathlib.Core.Path.{_≡_, refl, sym, ap, ap₂, _∙_}
 use mathlib.Core.List.{List, [], _∷_, _++_}
 use mathlib.Core.Option.{some}
@@ -11,15 +11,16 @@ use Rattle.format.specs.Encoding.{Box, recordBytes, entryBytes, endFrom, header
 use Rattle.format.specs.Kinds.{kindAt, kindOr}
 use Rattle.format.specs.Shapes.{Shape}
 use Rattle.format.proofs.Equations.{records-nil, end-nil, shp-is, shx-is}
+use Rattle.format.proofs.KindLaws
 use Rattle.format.proofs.Records.{records-more, end-more, entries-more, held-more}
 use Rattle.header.specs.Box.{boxBits}
 use Rattle.writer.specs.declared.State.{State}
-use Rattle.writer.specs.Adding.{Lent, lentKind, lentShape, recordOf, entryOf, wordsThen, nextState}
+use Rattle.writer.specs.Adding.{Lent, lentShape, recordOf, entryOf, wordsThen, nextState}
 use Rattle.writer.specs.Boxes.{settled}
 use Rattle.writer.specs.Finishing.{shpHeader, shxHeader}
-use Rattle.writer.proofs.Accepted.{Accepted, accepted, code, shape-fits, kind-stays, next-room, next-fine}
-use Rattle.writer.proofs.NextLaws.{words-next, number-next, kind-next, shp-next, shx-next}
-use Rattle.appending.specs.OneMore.{KindBehind, Behind, records, entries, Beginning, Appending}
+use Rattle.writer.proofs.Accepted.{Accepted, accepted, shape-fits, kind-named, kind-stays, own-next, next-room, next-fine}
+use Rattle.writer.proofs.NextLaws.{words-next, number-next, shp-next, shx-next}
+use Rattle.appending.specs.OneMore.{KindBehind, Behind, kindOf, records, entries, Beginning, Appending}
 
 pub fresh-behind : Beginning
 fresh-behind k = record { words = ap pos (sym (end-nil 50)); number = refl; kind = refl; held = tt }
@@ -51,13 +52,17 @@ module _ (k : Kind) (ss : List Shape) (s : State) (t : Lent) (b : Behind k ss s)
   count-is : natAbs (s .number) + 1 ≡ length (ss ++ lentShape t ∷ []) + 1
   count-is = omega (arith, number-is, length-append ss (lentShape t ∷ []))
 
-  code-is : natAbs (t .code) ≡ lentKind t .code
-  code-is = ap natAbs (code s t a)
+  -- the kind that the next state names: theirs, where there are any, and the record's own is a shape's in a file of it
+  abbrev file : Kind
+  file = kindOf (nextState s t)
 
-  kind-is : 0 < length ss → k ≡ lentKind t
+  code-is : natAbs (nextState s t .kind) ≡ file .code
+  code-is = ap natAbs (KindLaws.code-is (nextState s t .kind) file (kind-named s t a))
+
+  kind-is : 0 < length ss → k ≡ file
   kind-is h =
       let e = kind-stays s t a (λ one. omega (arith, number-is)) in
-      ap kindOr (sym (kind-behind k ss (s .kind) (b .kind) h) ∙ ap kindAt e)
+      ap kindOr (sym (kind-behind k ss (s .kind) (b .kind) h) ∙ ap kindAt (sym e))
 
   all-held : HeldFrom 1 50 (ss ++ lentShape t ∷ [])
   all-held =
@@ -66,19 +71,19 @@ module _ (k : Kind) (ss : List Shape) (s : State) (t : Lent) (b : Behind k ss s)
       let word : Held (endFrom 50 ss) = omega (arith, words-are, a .held) in
       held-more 1 50 ss (lentShape t ∷ []) (b .held) (number, word, omega (arith, a .held), f .parts-held, f .points-held, tt)
 
-  behind : Behind (lentKind t) (ss ++ lentShape t ∷ []) (nextState s t)
+  behind : Behind file (ss ++ lentShape t ∷ []) (nextState s t)
   behind =
       record {
         words = words-next s t ∙ ap pos end-is;
         number = number-next s t ∙ ap pos count-is;
-        kind = kind-more (lentKind t) ss (lentShape t) (nextState s t .kind) (ap kindAt (kind-next s t) ∙ a .kind);
+        kind = kind-more file ss (lentShape t) (nextState s t .kind) (kind-named s t a);
         held = all-held;
       }
 
-  appended : records (lentKind t) (ss ++ lentShape t ∷ []) ≡ records k ss ++ recordOf s t
+  appended : records file (ss ++ lentShape t ∷ []) ≡ records k ss ++ recordOf s t
   appended =
-      records-more (lentKind t) 1 ss (lentShape t)
-      ∙ ap₂ (λ (l : List ℕ) (n : ℕ). l ++ recordBytes (lentKind t) n (lentShape t)) (sym (records-same k (lentKind t) ss kind-is)) (sym number-is)
+      records-more file 1 ss (lentShape t)
+      ∙ (λ i. sym (records-same k file ss kind-is) i ++ recordBytes (own-next s t a i) (sym number-is i) (lentShape t))
 
   indexed : entries (ss ++ lentShape t ∷ []) ≡ entries ss ++ entryOf s t
   indexed = entries-more 50 ss (lentShape t) ∙ ap (λ (w : ℕ). entries ss ++ entryBytes (record { offset = w; words = shapeWords (lentShape t) })) (sym words-are)
@@ -89,11 +94,11 @@ module _ (k : Kind) (ss : List Shape) (s : State) (t : Lent) (b : Behind k ss s)
   abbrev box : Box
   box = boxBits (settled (nextState s t .bbox))
 
-  pair : IsPair (lentKind t) box (ss ++ lentShape t ∷ []) (shpHeader (nextState s t) ++ (records k ss ++ recordOf s t)) (shxHeader (nextState s t) ++ (entries ss ++ entryOf s t))
+  pair : IsPair file box (ss ++ lentShape t ∷ []) (shpHeader (nextState s t) ++ (records k ss ++ recordOf s t)) (shxHeader (nextState s t) ++ (entries ss ++ entryOf s t))
   pair =
       record {
-        shp-is = shp-is (lentKind t) box (ss ++ lentShape t ∷ []) ∙ ap₂ _++_ (sym (shp-next s t ∙ ap₂ (λ (w c : ℕ). headerBytes w 1000 c box) end-is code-is)) appended;
-        shx-is = shx-is (lentKind t) box (ss ++ lentShape t ∷ []) ∙ ap₂ _++_ (sym (shx-next s t ∙ ap₂ (λ (w c : ℕ). headerBytes w 1000 c box) index-is code-is)) indexed;
+        shp-is = shp-is file box (ss ++ lentShape t ∷ []) ∙ ap₂ _++_ (sym (shp-next s t ∙ ap₂ (λ (w c : ℕ). headerBytes w 1000 c box) end-is code-is)) appended;
+        shx-is = shx-is file box (ss ++ lentShape t ∷ []) ∙ ap₂ _++_ (sym (shx-next s t ∙ ap₂ (λ (w c : ℕ). headerBytes w 1000 c box) index-is code-is)) indexed;
         shp-held = omega (arith, end-is, a .held);
         shx-held = omega (arith, index-is, next-room s t a, a .held);
         held = all-held;
@@ -103,7 +108,7 @@ pub appends : Appending
 appends k ss s t out start entry n b e =
     let a = accepted s t out start entry n e in
     record {
-      of-kind = shape-fits s t a .of-kind;
+      among = rw (own-next s t a) (shape-fits s t a .of-kind);
       behind = behind k ss s t b a;
       fine = next-fine s t a;
       appended = appended k ss s t b a;
