@@ -15,7 +15,7 @@ use Rattle.format.specs.Lengths.{nothing, onePoint, parts, formula, contentWord
 use Rattle.format.specs.Shapes.{null, parted, there}
 use Rattle.format.proofs.Equations as Equations
 use Rattle.format.proofs.Equations.{words-null, words-point}
-use Rattle.format.proofs.KindLaws.{null-kind}
+use Rattle.format.proofs.LengthLaws.{null-kind}
 use Rattle.header.specs.declared.bbox.BBoxZ.{BBoxZ}
 use Rattle.layouts.specs.Answers.{countsHeld}
 use Rattle.layouts.specs.Steps.{Agreed}
