@@ -35,16 +35,16 @@ plain13 t l words e w = ap (λ (n : ℕ). fits t 0 (pointsAlone (t .form)) n) (s
 
 -- ---- all of them in order
 
-module _ (t : Taken) (l x : List ℕ) (at k : ℕ) where
+module _ (h : Kind) (l x : List ℕ) (at k : ℕ) where
   abbrev pub left : ℕ → ℕ
-  left i = rest i (headRules t l x at k) 0
+  left i = rest i (headRules h l x at k) 0
 
-  pub start : headFault t l x at k ≡ left 0
+  pub start : headFault h l x at k ≡ left 0
   unfolding headFault
   start = refl
 
-  pub past : (i : ℕ) → headFault t l x at k ≡ left i → okAt i (headRules t l x at k) ≡ true → headFault t l x at k ≡ left (suc i)
-  past i p e = on (headRules t l x at k) 0 (headFault t l x at k) i p e
+  pub past : (i : ℕ) → headFault h l x at k ≡ left i → okAt i (headRules h l x at k) ≡ true → headFault h l x at k ≡ left (suc i)
+  past i p e = on (headRules h l x at k) 0 (headFault h l x at k) i p e
 
-  pub refused : (i : ℕ) → headFault t l x at k ≡ left i → okAt i (headRules t l x at k) ≡ false → noAt i (headRules t l x at k) 0 ≡ headFault t l x at k
-  refused i p e = stop (headRules t l x at k) 0 (headFault t l x at k) i p e
+  pub refused : (i : ℕ) → headFault h l x at k ≡ left i → okAt i (headRules h l x at k) ≡ false → noAt i (headRules h l x at k) 0 ≡ headFault h l x at k
+  refused i p e = stop (headRules h l x at k) 0 (headFault h l x at k) i p e

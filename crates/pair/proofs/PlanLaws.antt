@@ -1,42 +1,38 @@
 -- The plan of a kind, by what the lookups answer: they find the kind that the rules take, or none.
 use mathlib.Core.Path.{_≡_, refl, sym, ap, _∙_}
-use mathlib.Core.Bool.{Bool, true, cond, _||_}
+use mathlib.Core.Bool.{Bool, true, false, cond, _||_}
 use mathlib.Core.List.{List}
 use mathlib.Core.Option.{Option, none, some}
-use Prim.Native.Nat.{ℕ}
+use Prim.Native.Nat.{ℕ, _+_}
 use native.Mathlib.Omega.{arith}
 use lib.Dec.{eqb}
-use lib.IntN.{pos}
+use lib.IntN.{ℤ, pos}
+use lib.ListN.{drop}
 use Rattle.format.specs.declared.kinds.Kind.{Kind}
 use Rattle.format.specs.declared.lengths.Lengths.{Lengths}
-use Rattle.format.specs.Kinds.{kindAt}
+use Rattle.format.specs.Kinds.{nullKind, kindAt}
 use Rattle.format.specs.Lengths.{Form, nothing, onePoint, parts, formOf, lengthsOf}
 use Rattle.format.specs.Numbers.{leI32}
 use Rattle.format.specs.WellFormed.{hasRings, leastPoints}
 use Rattle.format.proofs.Equations.{rings-is, least-is}
 use Rattle.format.proofs.KindLaws as Kinds
 use Rattle.format.proofs.KindLaws.{named-at}
-use Rattle.format.proofs.LengthLaws.{lengths-form, Flags, form-flags}
-use Rattle.rules.specs.Rules.{Taken, littleAt, withForm, takenOf, takenIn}
+use Rattle.format.proofs.LengthLaws.{lengths-form, Flags, form-flags, null-row, null-form}
+use Rattle.rules.specs.Rules.{Taken, nullTaken, littleAt, withForm, takenOf, takenIn, ownTaken}
 use Rattle.rules.proofs.HeaderRules.{named}
 use Rattle.rules.proofs.FirstFault.{taken-is}
+use Rattle.rules.proofs.PlaceLaws.{little-drop}
 use Rattle.pair.specs.declared.plans.Plan.{Plan}
 use Rattle.pair.specs.declared.plans.Planned.the-variants.{Is, NotTaken}
 use Rattle.pair.specs.Plans.{hasParts, pointsAlone, planFor, planned, alone, takenFrom}
 
--- ---- the kind that the header names
+-- ---- the plan of a code
 
-module _ (s : List ℕ) (k : Kind) (e : kindAt (leI32 32 s) ≡ some k) where
-  taken-at : takenIn s ≡ takenOf (some k)
-  taken-at = taken-is s ∙ ap takenOf (sym (named-at 32 s) ∙ e)
+pub unknown : (z : ℤ) → kindAt z ≡ none → NotTaken ≡ planned (takenOf (kindAt z))
+unknown z e = sym (ap (λ (o : Option Kind). planned (takenOf o)) e)
 
--- ---- the plan
-
-pub unknown : (s : List ℕ) → kindAt (leI32 32 s) ≡ none → NotTaken ≡ planned (takenIn s)
-unknown s e = sym (ap planned (taken-is s ∙ ap takenOf (sym (named-at 32 s) ∙ e)))
-
-pub not-taken : (s : List ℕ) (k : Kind) → kindAt (leI32 32 s) ≡ some k → formOf k ≡ none → NotTaken ≡ planned (takenIn s)
-not-taken s k e n = sym (ap planned (taken-at s k e ∙ ap (withForm k) n))
+pub not-taken : (z : ℤ) (k : Kind) → kindAt z ≡ some k → formOf k ≡ none → NotTaken ≡ planned (takenOf (kindAt z))
+not-taken z k e n = sym (ap planned (ap takenOf e ∙ ap (withForm k) n))
 
 -- a kind without parts has code 0, or one point
 form-parts : (k : Kind) (f : Form) → Flags k f → (k .parts ≡ hasParts f) × (cond (eqb (k .code) 0) 0 1 ≡ pointsAlone f)
@@ -44,22 +40,22 @@ form-parts k nothing e = (e .1, rw (e .0))
 form-parts k onePoint e = (e .1, rw (e .0))
 form-parts k parts e = (e .1, rw (e .0))
 
-pub is-taken : (s : List ℕ) (k : Kind) (l : Lengths) (points least : ℕ) (rings : Bool)
-    → kindAt (leI32 32 s) ≡ some k
+pub is-taken : (z : ℤ) (k : Kind) (l : Lengths) (points least : ℕ) (rings : Bool)
+    → kindAt z ≡ some k
     → lengthsOf k ≡ some l
     → points ≡ cond (eqb (k .code) 0) 0 1
     → rings ≡ (eqb (k .code) 5 || eqb (k .code) 15 || eqb (k .code) 25)
     → least ≡ cond rings 4 2
-    → Is (record { kind = k; parts = k .parts; points = points; rings = rings; least = least; lengths = l }) ≡ planned (takenIn s)
-is-taken s k l points least rings e n ps rs ls =
+    → Is (record { kind = k; parts = k .parts; points = points; rings = rings; least = least; lengths = l }) ≡ planned (takenOf (kindAt z))
+is-taken z k l points least rings e n ps rs ls =
     let o = lengths-form k l n in
-    let p = form-parts k (o .0) (form-flags (leI32 32 s) k (o .0) e (o .1)) in
+    let p = form-parts k (o .0) (form-flags z k (o .0) e (o .1)) in
     let q = ps ∙ p .1 in
     let r = rs ∙ sym (rings-is k) in
     let m : least ≡ leastPoints k = ls ∙ (ap (λ (x : Bool). cond x 4 2) r ∙ sym (least-is k)) in
     let plan : Is (record { kind = k; parts = k .parts; points = points; rings = rings; least = least; lengths = l }) ≡ planned (withForm k (some (o .0))) =
     λ i. Is (record { kind = k; parts = p .0 i; points = q i; rings = r i; least = m i; lengths = o .2 i }) in
-    plan ∙ sym (ap planned (taken-at s k e ∙ ap (withForm k) (o .1)))
+    plan ∙ sym (ap planned (ap takenOf e ∙ ap (withForm k) (o .1)))
 
 -- a plan tells the kind that it is for
 form-told : (f : Form) → cond (hasParts f) parts (alone (pointsAlone f)) ≡ f
@@ -71,6 +67,10 @@ told : (t : Taken) → takenFrom (planFor t) ≡ t
 told t = λ i. record { kind = t .kind; form = form-told (t .form) i }
 
 -- ---- and what it is for is what the rules take
+
+-- the kind that the header names
+pub in-header : (s : List ℕ) → takenOf (kindAt (leI32 32 s)) ≡ takenIn s
+in-header s = ap takenOf (named-at 32 s) ∙ sym (taken-is s)
 
 pub none-taken : (o : Option Taken) → planned o ≡ NotTaken → o ≡ none
 none-taken none e = refl
@@ -89,3 +89,32 @@ rings-parts s t e r =
     let q : some (t .form) ≡ some parts = sym (n .form) ∙ Kinds.rings-parts (pos (littleAt 32 s)) (t .kind) (n .row) r in
     let p : t .form ≡ parts = cc in
     ap hasParts p
+
+-- ---- Null's plan, and that of a record's own kind
+
+null-taken : takenOf (kindAt (pos 0)) ≡ some nullTaken
+null-taken = ap takenOf null-row ∙ ap (withForm nullKind) null-form
+
+pub null-plan : (plan : Plan) → planned (takenOf (kindAt (pos 0))) ≡ Is plan → plan ≡ planFor nullTaken
+null-plan plan e = let q : Is (planFor nullTaken) ≡ Is plan = sym (ap planned null-taken) ∙ e in cc
+
+pub null-is-taken : planned (takenOf (kindAt (pos 0))) ≡ NotTaken → ⊥
+null-is-taken e = let z : _≡_ {A = ℕ} 0 1 = cc (sym (ap planned null-taken) ∙ e) in omega arith
+
+pub record Owned (plan own : Plan) (s : List ℕ) (at : ℕ) : Type 0 where
+  pub is : own ≡ planFor (takenFrom own)
+  pub ringed : own .rings ≡ true → own .parts ≡ true
+  pub kind-is : takenFrom own ≡ ownTaken (takenFrom plan) (drop at s)
+
+module _ (plan null own : Plan) (p : plan ≡ planFor (takenFrom plan)) (n : null ≡ planFor nullTaken) (ringed : plan .rings ≡ true → plan .parts ≡ true) where
+  by-field : (b : Bool) → own ≡ cond b null plan
+      → (own ≡ planFor (takenFrom own)) × (own .rings ≡ true → own .parts ≡ true) × (takenFrom own ≡ cond b nullTaken (takenFrom plan))
+  by-field true e =
+      let q = e ∙ n in
+      let t : takenFrom own ≡ nullTaken = ap takenFrom q ∙ told nullTaken in
+      (q ∙ ap planFor (sym t), λ r. absurd (let z : _≡_ {A = ℕ} 0 1 = cc (ap (λ (x : Plan). x .rings) q ∙ rings-is nullKind) in omega arith), t)
+  by-field false e =
+      (e ∙ (p ∙ ap (λ (x : Plan). planFor (takenFrom x)) (sym e)), λ r. ap (λ (x : Plan). x .parts) e ∙ ringed (sym (ap (λ (x : Plan). x .rings) e) ∙ r), ap takenFrom e)
+
+  pub owned : (s : List ℕ) (at : ℕ) → own ≡ cond (eqb (littleAt (at + 8) s) 0) null plan → Owned plan own s at
+  owned s at e = let q = by-field (eqb (littleAt (at + 8) s) 0) e in record { is = q .0; ringed = q .1; kind-is = rw (little-drop at s 8) (q .2) }

@@ -1,23 +1,24 @@
--- The first rule that a record breaks, by the first that its head breaks: the head's come before the shape's.
+-- The first rule that a record breaks, by the first that its head breaks: the head's come before the content's.
 use mathlib.Core.Path.{_≡_}
 use mathlib.Core.Bool.{true}
 use mathlib.Core.List.{List}
 use Prim.Native.Nat.{ℕ}
+use Rattle.format.specs.declared.kinds.Kind.{Kind}
 use Rattle.format.specs.Order.{first}
 use Rattle.format.proofs.OrderLaws.{okAt, no-fault}
-use Rattle.rules.specs.Rules.{Taken, headRules, shapeRules, recordFault}
-use Rattle.rules.proofs.FirstFault.{head-first, then-shape}
+use Rattle.rules.specs.Rules.{Taken, headRules, ownTaken, contentRules, recordFault}
+use Rattle.rules.proofs.FirstFault.{head-first, then-content}
 use Rattle.pair.specs.Verdicts.{headFault}
 
 module _ (t : Taken) (l x : List ℕ) (at k : ℕ) where
-  pub by-head : (r : ℕ) → headFault t l x at k ≡ r → (r ≡ 0 → ⊥) → recordFault t l x at k ≡ r
+  pub by-head : (r : ℕ) → headFault (t .kind) l x at k ≡ r → (r ≡ 0 → ⊥) → recordFault t l x at k ≡ r
   unfolding headFault
   by-head r e n = head-first t l x at k r e n
 
-  pub by-shape : headFault t l x at k ≡ 0 → recordFault t l x at k ≡ first (shapeRules t l) 0
+  pub by-content : headFault (t .kind) l x at k ≡ 0 → recordFault t l x at k ≡ first (contentRules (ownTaken t l) l) 0
   unfolding headFault
-  by-shape e = then-shape t l x at k e
+  by-content e = then-content t l x at k e
 
-  pub head-met : headFault t l x at k ≡ 0 → (i : ℕ) → okAt i (headRules t l x at k) ≡ true
-  unfolding headFault
-  head-met e i = no-fault (headRules t l x at k) tt e i
+pub head-met : (h : Kind) (l x : List ℕ) (at k : ℕ) → headFault h l x at k ≡ 0 → (i : ℕ) → okAt i (headRules h l x at k) ≡ true
+unfolding headFault
+head-met h l x at k e i = no-fault (headRules h l x at k) tt e i

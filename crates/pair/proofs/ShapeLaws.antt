@@ -19,16 +19,18 @@ use Rattle.pair.proofs.RecordLaws.{head-met}
 
 -- ---- what a head with no fault tells
 
-pub record Head (t : Taken) (l x : List ℕ) : Type 0 where
+pub record Head (l x : List ℕ) : Type 0 where
   pub inside : Inside l
   pub entry : 8 ≤ length x
-  pub sized : P13 t l ≡ true
-  pub room : hasParts (t .form) ≡ true → 22 + 2 * littleAt 44 l + 8 * littleAt 48 l ≤ wordsOf l
 
-pub head-told : (t : Taken) (l x : List ℕ) (at k : ℕ) → headFault t l x at k ≡ 0 → Head t l x
-head-told t l x at k e =
-    let met = head-met t l x at k e in
-    record { inside = told10 l (met 1); entry = told11 l x at (met 2); sized = met 4; room = λ h. room13 t l (form-is (t .form) h) (met 4) }
+pub head-told : (h : Kind) (l x : List ℕ) (at k : ℕ) → headFault h l x at k ≡ 0 → Head l x
+head-told h l x at k e =
+    let met = head-met h l x at k e in
+    record { inside = told10 l (met 1); entry = told11 l x at (met 2) }
+
+-- and the rule of its length
+pub parts-room : (t : Taken) (l : List ℕ) → P13 t l ≡ true → hasParts (t .form) ≡ true → 22 + 2 * littleAt 44 l + 8 * littleAt 48 l ≤ wordsOf l
+parts-room t l e h = room13 t l (form-is (t .form) h) e
 
 -- ---- the counts, and the rules of the shape over them
 

@@ -8,19 +8,21 @@ use native.Mathlib.Omega.{arith}
 use lib.Dec.{lit≤}
 use lib.ListN.{length, drop, length-drop}
 use lib.Seq.{drop-drop}
+use Rattle.format.specs.declared.kinds.Kind.{Kind}
 use Rattle.format.specs.Order.{first}
 use Rattle.format.specs.Said.{Said, fault}
 use Rattle.format.specs.WellFormed.{hasRings, leastPoints}
 use Rattle.format.proofs.Equations.{least-is}
-use Rattle.rules.specs.Rules.{Taken, Counts, bigAt, littleAt, wordsOf, partsOf, pointsOf, finites, partsLong, ringsClosed, P14, P15, P16, shapeRules, recordFault, walkFrom}
+use Rattle.rules.specs.Rules.{Taken, Counts, bigAt, littleAt, wordsOf, partsOf, pointsOf, finites, partsLong, ringsClosed, P13, P14, P15, P16, contentRules, recordFault, walkFrom}
 use Rattle.rules.proofs.PlaceLaws.{big-drop, little-drop, finites-drop, parts-drop, rings-drop}
 use Rattle.rules.proofs.Turns.{parts-done}
 use Rattle.rules.proofs.WalkLaws.{broken, met-all}
 use Rattle.pair.specs.declared.plans.Plan.{Plan}
-use Rattle.pair.specs.Plans.{hasParts, pointsAlone, planFor, takenFrom}
+use Rattle.pair.specs.Plans.{hasParts, pointsAlone, takenFrom}
 use Rattle.pair.specs.Verdicts.{headFault}
-use Rattle.pair.proofs.RecordLaws.{by-head, by-shape}
-use Rattle.pair.proofs.ShapeLaws.{Head, head-told, parts-of, points-of, at-most-one, beginsOf, shape14, shape15, shape16}
+use Rattle.pair.proofs.PlanLaws.{Owned}
+use Rattle.pair.proofs.RecordLaws.{by-head, by-content}
+use Rattle.pair.proofs.ShapeLaws.{head-told, parts-room, parts-of, points-of, at-most-one, beginsOf, shape14, shape15, shape16}
 
 abbrev pub counts : ℕ → ℕ → ℕ → Counts
 counts k ps ns = record { records = k; parts = ps; points = ns }
@@ -37,65 +39,73 @@ pub record Walked (plan : Plan) (s x : List ℕ) (at ix k ps ns : ℕ) (v : Said
 -- a record whose head breaks a rule
 pub no-head : (t : Taken) (s x : List ℕ) (at ix k ps ns r : ℕ)
     → at < length s
-    → r ≡ headFault t (drop at s) (drop ix x) at (k + 1)
+    → r ≡ headFault (t .kind) (drop at s) (drop ix x) at (k + 1)
     → (r ≡ 0 → ⊥)
     → walkFrom t (drop at s) (drop ix x) at (counts k ps ns) ≡ fault r (k + 1)
 no-head t s x at ix k ps ns r h e n =
     broken t (drop at s) (drop ix x) at (counts k ps ns) (rw length-drop (omega arith)) r n
     (by-head t (drop at s) (drop ix x) at (k + 1) r (sym e) n)
 
--- ---- a record whose head has no fault
+-- ---- a record whose head has no fault, and the plan of its own kind
 
-pub record Open (plan : Plan) (s x : List ℕ) (at ix k : ℕ) : Type 0 where
-  pub is : plan ≡ planFor (takenFrom plan)
-  pub ringed : plan .rings ≡ true → plan .parts ≡ true
+pub record Open (plan own : Plan) (s x : List ℕ) (at ix k : ℕ) : Type 0 where
   pub inside : at < length s
-  pub hd : 0 ≡ headFault (takenFrom plan) (drop at s) (drop ix x) at (k + 1)
+  pub hd : 0 ≡ headFault (plan .kind) (drop at s) (drop ix x) at (k + 1)
+  pub owned : Owned plan own s at
 
-module _ {plan : Plan} {s x : List ℕ} {at ix k : ℕ} (o : Open plan s x at ix k) where
-  head : Head (takenFrom plan) (drop at s) (drop ix x)
-  head = head-told (takenFrom plan) (drop at s) (drop ix x) at (k + 1) (sym (o .hd))
-
-  has-parts : plan .parts ≡ hasParts (takenFrom plan .form)
-  has-parts = ap (λ (p : Plan). p .parts) (o .is)
-
-  words-at : wordsOf (drop at s) ≡ bigAt (at + 4) s
-  words-at = big-drop at s 4
-
--- what its words have room for
-pub record Room (plan : Plan) (s x : List ℕ) (at ix w : ℕ) : Type 0 where
+-- there it has a content of so many words, and an entry
+pub record Within (s x : List ℕ) (at ix w : ℕ) : Type 0 where
   pub held : w < 2 ^ 31
   pub some : 2 ≤ w
   pub within : at + (8 + 2 * w) ≤ length s
   pub entry : ix + 8 ≤ length x
-  pub parted : plan .parts ≡ true → 22 + 2 * littleAt (at + 44) s + 8 * littleAt (at + 48) s ≤ w
 
-pub room : {plan : Plan} {s x : List ℕ} {at ix k : ℕ} → Open plan s x at ix k → (w : ℕ) → w ≡ bigAt (at + 4) s → Room plan s x at ix w
-room {plan} {s} {x} {at} {ix} {k} o w e =
-    let h = head o in
-    let q : w ≡ wordsOf (drop at s) = e ∙ sym (words-at o) in
+pub within : (h : Kind) (s x : List ℕ) (at ix k : ℕ) → at < length s → 0 ≡ headFault h (drop at s) (drop ix x) at (k + 1) → (w : ℕ) → w ≡ bigAt (at + 4) s → Within s x at ix w
+within h s x at ix k i e w is =
+    let t = head-told h (drop at s) (drop ix x) at (k + 1) (sym e) in
+    let q : w ≡ wordsOf (drop at s) = is ∙ sym (big-drop at s 4) in
     let a = length-drop at s in
     let b = length-drop ix x in
-    record {
-      held = rw q (h .inside .held);
-      some = rw q (h .inside .some);
-      within = omega (arith, h .inside .within, o .inside);
-      entry = omega (arith, h .entry);
-      parted = λ p. rw (q, ← little-drop at s 44, ← little-drop at s 48) (h .room (sym (has-parts o) ∙ p));
-    }
+    record { held = rw q (t .inside .held); some = rw q (t .inside .some); within = omega (arith, t .inside .within, i); entry = omega (arith, t .entry) }
 
--- and with p parts and n points: the parts' starts and points, the doubles in front of the counts and those behind the starts
-pub record Fit (plan : Plan) (s x : List ℕ) (at ix w p n : ℕ) : Type 0 where
+module _ {plan own : Plan} {s x : List ℕ} {at ix k : ℕ} (o : Open plan own s x at ix k) where
+  abbrev kind-of : Taken
+  kind-of = takenFrom own
+
+  abbrev bytes : List ℕ
+  bytes = drop at s
+
+  has-parts : own .parts ≡ hasParts (kind-of .form)
+  has-parts = ap (λ (p : Plan). p .parts) (o .owned .is)
+
+  from : 0 < length bytes
+  from = rw length-drop (omega (arith, o .inside))
+
+  -- the content's rules decide
+  later : recordFault (takenFrom plan) bytes (drop ix x) at (k + 1) ≡ first (contentRules kind-of bytes) 0
+  later = by-content (takenFrom plan) bytes (drop ix x) at (k + 1) (sym (o .hd)) ∙ ap (λ (t : Taken). first (contentRules t bytes) 0) (sym (o .owned .kind-is))
+
+  -- what they answer, where the walk from here on has the verdict v
+  module _ (ps ns : ℕ) {v : Said Counts} (rest : walkFrom (takenFrom plan) bytes (drop ix x) at (counts k ps ns) ≡ v) where
+    answer : (r : ℕ) → (r ≡ 0 → ⊥) → first (contentRules kind-of bytes) 0 ≡ r → fault r (k + 1) ≡ v
+    answer r m e = sym (broken (takenFrom plan) bytes (drop ix x) at (counts k ps ns) from r m (later ∙ e)) ∙ rest
+
+    pub no13 : P13 kind-of bytes ≡ false → fault 13 (k + 1) ≡ v
+    no13 e = answer 13 (λ z. omega arith) (rw e)
+
+-- What its words have room for, with p parts and n points: the parts' starts and points, the doubles in front of the counts and those behind the
+-- starts.
+pub record Fit (own : Plan) (s x : List ℕ) (at ix w p n : ℕ) : Type 0 where
   pub held : w < 2 ^ 31
   pub within : at + (8 + 2 * w) ≤ length s
   pub entry : ix + 8 ≤ length x
-  pub least-some : 1 ≤ plan .least
-  pub least-few : plan .least ≤ 4
+  pub least-some : 1 ≤ own .least
+  pub least-few : own .least ≤ 4
   pub few-parts : p ≤ w
   pub few-points : n ≤ w
   pub in-parts : 0 < p → 22 + 2 * p + 8 * n ≤ w
-  pub in-front : 12 + 8 * cond (plan .parts) 4 ((w - 2) / 4) ≤ 8 + 2 * w
-  pub in-back : 0 < cond (plan .parts) ((w - 22 - 2 * p) / 4) 0 → 52 + 4 * p + 8 * cond (plan .parts) ((w - 22 - 2 * p) / 4) 0 ≤ 8 + 2 * w
+  pub in-front : 12 + 8 * cond (own .parts) 4 ((w - 2) / 4) ≤ 8 + 2 * w
+  pub in-back : 0 < cond (own .parts) ((w - 22 - 2 * p) / 4) 0 → 52 + 4 * p + 8 * cond (own .parts) ((w - 22 - 2 * p) / 4) 0 ≤ 8 + 2 * w
 
 least-more : (b : Bool) → (1 ≤ cond b 4 2) × (cond b 4 2 ≤ 4)
 least-more true = (lit≤ tt, lit≤ tt)
@@ -117,66 +127,74 @@ by-parts : (b : Bool) (a i j w p n : ℕ) → p ≡ cond b i 0 → n ≡ cond b 
 by-parts true a i j w p n e f h k r = let q = r refl in (omega arith, omega arith, λ z. q, omega arith, λ z. omega arith)
 by-parts false a i j w p n e f h k r = (omega arith, omega arith, λ z. omega arith, omega arith, λ z. omega arith)
 
--- and with its words and counts read
-pub record Here (plan : Plan) (s x : List ℕ) (at ix k ps ns w p n : ℕ) (v : Said Counts) : Type 0 where
-  pub opened : Open plan s x at ix k
+-- and with its words and counts read, where its length is one that they give
+pub record Here (plan own : Plan) (s x : List ℕ) (at ix k ps ns w p n : ℕ) (v : Said Counts) : Type 0 where
+  pub opened : Open plan own s x at ix k
+  pub sized : P13 (takenFrom own) (drop at s) ≡ true
   pub we : w ≡ bigAt (at + 4) s
-  pub pe : p ≡ cond (plan .parts) (littleAt (at + 44) s) 0
-  pub ne : n ≡ cond (plan .parts) (littleAt (at + 48) s) (plan .points)
+  pub pe : p ≡ cond (own .parts) (littleAt (at + 44) s) 0
+  pub ne : n ≡ cond (own .parts) (littleAt (at + 48) s) (own .points)
   pub rest : walkFrom (takenFrom plan) (drop at s) (drop ix x) at (counts k ps ns) ≡ v
 
-module _ {plan : Plan} {s x : List ℕ} {at ix k ps ns w p n : ℕ} {v : Said Counts} (h : Here plan s x at ix k ps ns w p n v) where
-  abbrev kind-of : Taken
-  kind-of = takenFrom plan
+-- a record with parts has room for its counts
+pub counted : {plan own : Plan} {s x : List ℕ} {at ix k : ℕ} → Open plan own s x at ix k → P13 (takenFrom own) (drop at s) ≡ true → (w : ℕ) → w ≡ bigAt (at + 4) s
+    → own .parts ≡ true → 22 + 2 * littleAt (at + 44) s + 8 * littleAt (at + 48) s ≤ w
+counted {plan} {own} {s} {x} {at} o e w is p =
+    let q : w ≡ wordsOf (drop at s) = is ∙ sym (big-drop at s 4) in
+    rw (q, ← little-drop at s 44, ← little-drop at s 48) (parts-room (takenFrom own) (drop at s) e (sym (has-parts o) ∙ p))
 
-  abbrev bytes : List ℕ
-  bytes = drop at s
+module _ {plan own : Plan} {s x : List ℕ} {at ix k ps ns w p n : ℕ} {v : Said Counts} (h : Here plan own s x at ix k ps ns w p n v) where
+  abbrev kind-here : Taken
+  kind-here = takenFrom own
 
-  w-of : w ≡ wordsOf bytes
-  w-of = h .we ∙ sym (words-at (h .opened))
+  abbrev here : List ℕ
+  here = drop at s
 
-  p-of : p ≡ partsOf (kind-of .form) bytes
-  p-of = h .pe ∙ sym (parts-of (kind-of .form) bytes ∙ ap₂ (λ (b : Bool) (q : ℕ). cond b q 0) (sym (has-parts (h .opened))) (little-drop at s 44))
+  w-of : w ≡ wordsOf here
+  w-of = h .we ∙ sym (big-drop at s 4)
 
-  n-of : n ≡ pointsOf (kind-of .form) bytes
+  p-of : p ≡ partsOf (kind-here .form) here
+  p-of = h .pe ∙ sym (parts-of (kind-here .form) here ∙ ap₂ (λ (b : Bool) (q : ℕ). cond b q 0) (sym (has-parts (h .opened))) (little-drop at s 44))
+
+  n-of : n ≡ pointsOf (kind-here .form) here
   n-of =
       h .ne
-      ∙ sym (points-of (kind-of .form) bytes
-      ∙ (ap₂ (λ (b : Bool) (q : ℕ). cond b q (pointsAlone (kind-of .form))) (sym (has-parts (h .opened))) (little-drop at s 48)
-      ∙ ap (λ (q : ℕ). cond (plan .parts) (littleAt (at + 48) s) q) (sym (ap (λ (q : Plan). q .points) (h .opened .is)))))
+      ∙ sym (points-of (kind-here .form) here
+      ∙ (ap₂ (λ (b : Bool) (q : ℕ). cond b q (pointsAlone (kind-here .form))) (sym (has-parts (h .opened))) (little-drop at s 48)
+      ∙ ap (λ (q : ℕ). cond (own .parts) (littleAt (at + 48) s) q) (sym (ap (λ (q : Plan). q .points) (h .opened .owned .is)))))
 
-  has-rings : plan .rings ≡ hasRings (kind-of .kind)
-  has-rings = ap (λ (q : Plan). q .rings) (h .opened .is)
+  has-rings : own .rings ≡ hasRings (kind-here .kind)
+  has-rings = ap (λ (q : Plan). q .rings) (h .opened .owned .is)
 
-  least-of : plan .least ≡ leastPoints (kind-of .kind)
-  least-of = ap (λ (q : Plan). q .least) (h .opened .is)
+  least-of : own .least ≡ leastPoints (kind-here .kind)
+  least-of = ap (λ (q : Plan). q .least) (h .opened .owned .is)
 
   pairs-are : at + (52 + 4 * p) ≡ at + 52 + 4 * p
   pairs-are = omega arith
 
   -- ---- what its words and its counts have room for
 
-  pub counts-room : plan .parts ≡ true → 22 + 2 * p + 8 * n ≤ w
+  pub counts-room : own .parts ≡ true → 22 + 2 * p + 8 * n ≤ w
   counts-room e =
-      let r = room (h .opened) w (h .we) .parted e in
+      let r = counted (h .opened) (h .sized) w (h .we) e in
       let q : p ≡ littleAt (at + 44) s = rw e at (h .pe) in
       let m : n ≡ littleAt (at + 48) s = rw e at (h .ne) in
       omega arith
 
-  few-alone : plan .points ≤ 1
-  few-alone = rw (ap (λ (q : Plan). q .points) (h .opened .is)) (at-most-one (kind-of .form))
+  few-alone : own .points ≤ 1
+  few-alone = rw (ap (λ (q : Plan). q .points) (h .opened .owned .is)) (at-most-one (kind-here .form))
 
-  pub fit : Fit plan s x at ix w p n
+  pub fit : Fit own s x at ix w p n
   fit =
-      let r = room (h .opened) w (h .we) in
-      let q = by-parts (plan .parts) (plan .points) (littleAt (at + 44) s) (littleAt (at + 48) s) w p n (h .pe) (h .ne) (r .some) few-alone counts-room in
-      let l : plan .least ≡ cond (hasRings (kind-of .kind)) 4 2 = least-of ∙ least-is (kind-of .kind) in
+      let r = within (plan .kind) s x at ix k (h .opened .inside) (h .opened .hd) w (h .we) in
+      let q = by-parts (own .parts) (own .points) (littleAt (at + 44) s) (littleAt (at + 48) s) w p n (h .pe) (h .ne) (r .some) few-alone counts-room in
+      let l : own .least ≡ cond (hasRings (kind-here .kind)) 4 2 = least-of ∙ least-is (kind-here .kind) in
       record {
         held = r .held;
         within = r .within;
         entry = r .entry;
-        least-some = rw l (least-more (hasRings (kind-of .kind)) .0);
-        least-few = rw l (least-more (hasRings (kind-of .kind)) .1);
+        least-some = rw l (least-more (hasRings (kind-here .kind)) .0);
+        least-few = rw l (least-more (hasRings (kind-here .kind)) .1);
         few-parts = q .0;
         few-points = q .1;
         in-parts = q .2;
@@ -187,70 +205,64 @@ module _ {plan : Plan} {s x : List ℕ} {at ix k ps ns w p n : ℕ} {v : Said Co
   -- ---- the rules of its shape, at its place in the file
 
   abbrev pub begins : Bool
-  begins = beginsOf (plan .parts) p (littleAt (at + 52) s)
+  begins = beginsOf (own .parts) p (littleAt (at + 52) s)
 
   abbrev pub long : Bool
-  long = partsLong (plan .least) p (at + 56) 0 n s
+  long = partsLong (own .least) p (at + 56) 0 n s
 
   abbrev pub closed : Bool
-  closed = ringsClosed (at + 52 + 4 * p) (cond (plan .rings) p 0) (at + 56) 0 n s
+  closed = ringsClosed (at + 52 + 4 * p) (cond (own .rings) p 0) (at + 56) 0 n s
 
   abbrev pub front : Bool
-  front = finites (cond (plan .parts) 4 ((w - 2) / 4)) (at + 12) s
+  front = finites (cond (own .parts) 4 ((w - 2) / 4)) (at + 12) s
 
   abbrev pub back : Bool
-  back = finites (cond (plan .parts) ((w - 22 - 2 * p) / 4) 0) (at + 52 + 4 * p) s
+  back = finites (cond (own .parts) ((w - 22 - 2 * p) / 4) 0) (at + 52 + 4 * p) s
 
-  rule14 : P14 kind-of bytes ≡ (begins && long)
+  rule14 : P14 kind-here here ≡ (begins && long)
   rule14 =
-      shape14 kind-of bytes
+      shape14 kind-here here
       ∙ rw (← has-parts (h .opened), ← least-of, ← p-of, ← n-of, little-drop at s 52)
-      (ap (λ (b : Bool). begins && b) (parts-drop at s (plan .least) p 56 0 n))
+      (ap (λ (b : Bool). begins && b) (parts-drop at s (own .least) p 56 0 n))
 
-  rule15 : P15 kind-of bytes ≡ closed
+  rule15 : P15 kind-here here ≡ closed
   rule15 =
-      shape15 kind-of bytes (λ e. sym (has-parts (h .opened)) ∙ h .opened .ringed (has-rings ∙ e))
-      ∙ rw (← has-rings, ← p-of, ← n-of) (rings-drop at s (52 + 4 * p) (cond (plan .rings) p 0) 56 0 n ∙ rw pairs-are)
+      shape15 kind-here here (λ e. sym (has-parts (h .opened)) ∙ h .opened .owned .ringed (has-rings ∙ e))
+      ∙ rw (← has-rings, ← p-of, ← n-of) (rings-drop at s (52 + 4 * p) (cond (own .rings) p 0) 56 0 n ∙ rw pairs-are)
 
-  rule16 : P16 kind-of bytes ≡ (front && back)
+  rule16 : P16 kind-here here ≡ (front && back)
   rule16 =
-      let e : finites (cond (plan .parts) ((w - 22 - 2 * p) / 4) 0) (52 + 4 * p) bytes ≡ back = finites-drop at s (cond (plan .parts) ((w - 22 - 2 * p) / 4) 0) (52 + 4 * p) ∙ rw pairs-are in
-      shape16 kind-of bytes (head (h .opened) .sized)
+      let e : finites (cond (own .parts) ((w - 22 - 2 * p) / 4) 0) (52 + 4 * p) here ≡ back = finites-drop at s (cond (own .parts) ((w - 22 - 2 * p) / 4) 0) (52 + 4 * p) ∙ rw pairs-are in
+      shape16 kind-here here (h .sized)
       ∙ rw (← has-parts (h .opened), ← w-of, ← p-of)
-      (ap₂ (λ (a b : Bool). a && b) (finites-drop at s (cond (plan .parts) 4 ((w - 2) / 4)) 12) e)
+      (ap₂ (λ (a b : Bool). a && b) (finites-drop at s (cond (own .parts) 4 ((w - 2) / 4)) 12) e)
 
   -- ---- what each of them answers where it is broken
 
-  from : 0 < length bytes
-  from = rw length-drop (omega (arith, h .opened .inside))
-
-  later : recordFault kind-of bytes (drop ix x) at (k + 1) ≡ first (shapeRules kind-of bytes) 0
-  later = by-shape kind-of bytes (drop ix x) at (k + 1) (sym (h .opened .hd))
-
-  answer : (r : ℕ) → (r ≡ 0 → ⊥) → first (shapeRules kind-of bytes) 0 ≡ r → fault r (k + 1) ≡ v
-  answer r m e = sym (broken kind-of bytes (drop ix x) at (counts k ps ns) from r m (later ∙ e)) ∙ h .rest
+  fails : (r : ℕ) → (r ≡ 0 → ⊥) → first (contentRules kind-here here) 0 ≡ r → fault r (k + 1) ≡ v
+  fails r m e = answer (h .opened) ps ns (h .rest) r m e
 
   pub no14-first : begins ≡ false → fault 14 (k + 1) ≡ v
-  no14-first a = answer 14 (λ e. omega arith) (rw (rule14, a))
+  no14-first a = fails 14 (λ e. omega arith) (rw (h .sized, rule14, a))
 
   module _ (a : begins ≡ true) where
     pub no14 : long ≡ false → fault 14 (k + 1) ≡ v
-    no14 b = answer 14 (λ e. omega arith) (rw (rule14, a, b))
+    no14 b = fails 14 (λ e. omega arith) (rw (h .sized, rule14, a, b))
 
     module _ (b : long ≡ true) where
       pub no15 : closed ≡ false → fault 15 (k + 1) ≡ v
-      no15 c = answer 15 (λ e. omega arith) (rw (rule14, a, b, rule15, c))
+      no15 c = fails 15 (λ e. omega arith) (rw (h .sized, rule14, a, b, rule15, c))
 
       module _ (c : closed ≡ true) where
         pub no16-front : front ≡ false → fault 16 (k + 1) ≡ v
-        no16-front d = answer 16 (λ e. omega arith) (rw (rule14, a, b, rule15, c, rule16, d))
+        no16-front d = fails 16 (λ e. omega arith) (rw (h .sized, rule14, a, b, rule15, c, rule16, d))
 
         module _ (d : front ≡ true) where
           pub no16 : back ≡ false → fault 16 (k + 1) ≡ v
-          no16 e = answer 16 (λ e. omega arith) (rw (rule14, a, b, rule15, c, rule16, d, e))
+          no16 e = fails 16 (λ e. omega arith) (rw (h .sized, rule14, a, b, rule15, c, rule16, d, e))
 
-          pub next : back ≡ true → walkFrom kind-of (drop (at + (8 + 2 * w)) s) (drop (ix + 8) x) (at + (8 + 2 * w)) (counts (k + 1) (ps + p) (ns + n)) ≡ v
+          pub next : back ≡ true → walkFrom (takenFrom plan) (drop (at + (8 + 2 * w)) s) (drop (ix + 8) x) (at + (8 + 2 * w)) (counts (k + 1) (ps + p) (ns + n)) ≡ v
           next e =
-              sym (met-all kind-of bytes (drop ix x) at (counts k ps ns) from (later ∙ rw (rule14, a, b, rule15, c, rule16, d, e))
-              ∙ rw (← w-of, drop-drop, drop-drop, ← p-of, ← n-of) refl)
+              sym (met-all (takenFrom plan) here (drop ix x) at (counts k ps ns) (from (h .opened)) (later (h .opened) ∙ rw (h .sized, rule14, a, b, rule15, c, rule16, d, e))
+              ∙ rw (← h .opened .owned .kind-is, ← w-of, drop-drop, drop-drop, ← p-of, ← n-of) refl)
               ∙ h .rest

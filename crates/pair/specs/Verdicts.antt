@@ -3,10 +3,11 @@ use mathlib.Core.Path.{_≡_}
 use mathlib.Core.List.{List}
 use Prim.Native.Nat.{ℕ}
 use lib.ListN.{take, drop}
+use Rattle.format.specs.declared.kinds.Kind.{Kind}
 use Rattle.format.specs.Order.{first}
 use Rattle.format.specs.Said.{Said, gives, fault}
 use Rattle.rules.specs.Meaning.{Judged}
-use Rattle.rules.specs.Rules.{Taken, Counts, headersRules, headRules, verdict}
+use Rattle.rules.specs.Rules.{Counts, headersRules, headRules, verdict}
 use Rattle.meaning.specs.Consequences.{Says}
 use Rattle.pair.specs.declared.Verdict.{Verdict}
 use Rattle.pair.specs.declared.Verdict.the-variants.{Yes, No}
@@ -29,6 +30,6 @@ frontFault shp shx = first (take 3 (headersRules shp shx)) 0
 unfoldable pub backFault : List ℕ → List ℕ → ℕ
 backFault shp shx = first (drop 4 (headersRules shp shx)) 0
 
--- the first of P9 to P13 that a record breaks
-unfoldable pub headFault : Taken → List ℕ → List ℕ → ℕ → ℕ → ℕ
-headFault t l x at k = first (headRules t l x at k) 0
+-- the first of P9 to P12 that a record breaks
+unfoldable pub headFault : Kind → List ℕ → List ℕ → ℕ → ℕ → ℕ
+headFault h l x at k = first (headRules h l x at k) 0

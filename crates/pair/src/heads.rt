@@ -1,4 +1,4 @@
-// The rules P1 to P13, each of them a test, and the first that is broken: of the headers, and of a record's header, entry and counts.
+// The rules P1 to P13, each of them a test, and the first that is broken: of the headers, and of a record's header, entry and kind.
 ghost use mathlib.Core.Path.{_≡_};
 ghost use mathlib.Core.Bool.{_||_};
 ghost use Prim.Native.Nat.{_+_, _*_, _^_, _≤_, _<_};
@@ -6,7 +6,7 @@ ghost use lib.IntN.{pos};
 ghost use lib.ListN.{length, drop};
 ghost use Rattle.format.specs.Lengths.{formulaWords};
 ghost use Rattle.format.specs.Units.{sameInt};
-ghost use Rattle.rules.specs.Rules.{P3, P7, P8, P9, P10, P11, P13, lengthRight, bigAt};
+ghost use Rattle.rules.specs.Rules.{P3, P7, P8, P9, P10, P11, P12, P13, lengthRight, bigAt};
 ghost use Rattle.pair.specs.Plans.{planFor, takenFrom};
 ghost use Rattle.pair.specs.Verdicts.{frontFault, backFault, headFault};
 use crate::leaves::big;
@@ -15,6 +15,7 @@ use crate::leaves::little;
 use crate::leaves::same_bytes;
 use crate::leaves::words_at;
 use crate::plans::Plan;
+use format::kinds::Kind;
 use format::lengths::Lengths;
 use format::units::Words;
 
@@ -155,6 +156,18 @@ fn indexed(shp: &[u8], shx: &[u8], at: usize, ix: usize) -> bool
     indexed.0 == own.0
 }
 
+// P12: the kind is the header's, or Null.
+fn of_kind(kind: Kind, shp: &[u8], at: usize) -> bool
+    requires { ⌜ at + 12 ≤ length (now shp) ⌝ }
+    ensures { λ r. ⌜ r ≡ P12 kind (drop at (now (shp .entry))) ⌝ }
+{
+    let code = little(shp, at + 8);
+    if code == kind.code as usize {
+        return true;
+    }
+    code == 0
+}
+
 // One of the two formulas of a kind gives so many words.
 fn measures(lengths: Lengths, p: usize, n: usize, words: Words) -> bool
     requires { ⌜ (p < 2 ^ 31) × (n < 2 ^ 31) ⌝ }
@@ -169,7 +182,7 @@ fn measures(lengths: Lengths, p: usize, n: usize, words: Words) -> bool
 }
 
 // P13: the counts are not negative, and the length is one that they give. With parts, too few words for the counts fit no formula.
-fn sized(plan: Plan, shp: &[u8], at: usize) -> bool
+pub(crate) fn sized(plan: Plan, shp: &[u8], at: usize) -> bool
     requires { ⌜ (plan ≡ planFor (takenFrom plan)) × (at + 8 + 2 * bigAt (at + 4) (now shp) ≤ length (now shp)) × (bigAt (at + 4) (now shp) < 2 ^ 31) ⌝ }
     ensures { λ r. ⌜ r ≡ P13 (takenFrom plan) (drop at (now (shp .entry))) ⌝ }
 {
@@ -192,7 +205,7 @@ fn sized(plan: Plan, shp: &[u8], at: usize) -> bool
     measures(lengths, p, n, words)
 }
 
-// The first of P9 to P13 that record k breaks; 0 for none.
+// The first of P9 to P12 that record k breaks; 0 for none.
 pub(crate) fn head_fault(
     plan: Plan,
     shp: &[u8],
@@ -201,8 +214,8 @@ pub(crate) fn head_fault(
     ix: usize,
     k: usize,
 ) -> usize
-    requires { ⌜ (plan ≡ planFor (takenFrom plan)) × (at ≤ length (now shp)) × (ix ≤ length (now shx)) ⌝ }
-    ensures { λ r. ⌜ r ≡ headFault (takenFrom plan) (drop at (now (shp .entry))) (drop ix (now (shx .entry))) at k ⌝ }
+    requires { ⌜ (at ≤ length (now shp)) × (ix ≤ length (now shx)) ⌝ }
+    ensures { λ r. ⌜ r ≡ headFault (plan .kind) (drop at (now (shp .entry))) (drop ix (now (shx .entry))) at k ⌝ }
 {
     if !numbered(shp, at, k) {
         return 9;
@@ -214,11 +227,8 @@ pub(crate) fn head_fault(
         return 11;
     }
     let kind = plan.kind;
-    if little(shp, at + 8) != kind.code as usize {
+    if !of_kind(kind, shp, at) {
         return 12;
-    }
-    if !sized(plan, shp, at) {
-        return 13;
     }
     0
 }

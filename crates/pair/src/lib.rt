@@ -3,7 +3,7 @@ ghost use mathlib.Core.Path.{_≡_};
 ghost use mathlib.Core.Bool.{true};
 ghost use Prim.Native.Nat.{_≤_};
 ghost use lib.ListN.{length, drop};
-ghost use Rattle.rules.specs.Rules.{verdict, walkFrom, none-yet};
+ghost use Rattle.rules.specs.Rules.{nullTaken, verdict, walkFrom, none-yet};
 ghost use Rattle.pair.specs.Plans.{planFor, takenFrom};
 ghost use Rattle.pair.specs.Verdicts.{saidVerdict, Checks};
 use plans::Plan;
@@ -26,9 +26,9 @@ pub enum Verdict {
     },
 }
 
-// The records behind the headers. The first fault in record order, then rule order, ends the walk.
-fn walk(plan: Plan, shp: &[u8], shx: &[u8]) -> Verdict
-    requires { ⌜ (plan ≡ planFor (takenFrom plan)) × (plan .rings ≡ true → plan .parts ≡ true) × (100 ≤ length (now shp)) × (100 ≤ length (now shx)) ⌝ }
+// The records behind the headers, by the file's plan and Null's. The first fault in record order, then rule order, ends the walk.
+fn walk(plan: Plan, null: Plan, shp: &[u8], shx: &[u8]) -> Verdict
+    requires { ⌜ (plan ≡ planFor (takenFrom plan)) × (null ≡ planFor nullTaken) × (plan .rings ≡ true → plan .parts ≡ true) × (100 ≤ length (now shp)) × (100 ≤ length (now shx)) ⌝ }
     ensures { λ r. ⌜ saidVerdict r ≡ walkFrom (takenFrom plan) (drop 100 (now (shp .entry))) (drop 100 (now (shx .entry))) 100 none-yet ⌝ }
 {
     let mut at: usize = 100;
@@ -52,7 +52,7 @@ fn walk(plan: Plan, shp: &[u8], shx: &[u8]) -> Verdict
                 points: points,
             };
         }
-        // P9 to P13
+        // P9 to P12
         let fault = heads::head_fault(plan, shp, shx, at, ix, k);
         if fault != 0 {
             break 'walk Verdict::No {
@@ -60,11 +60,19 @@ fn walk(plan: Plan, shp: &[u8], shx: &[u8]) -> Verdict
                 record: k,
             };
         }
+        // P13, and all that follows, by the record's own kind
+        let own = plans::own_plan(plan, null, shp, at);
+        if !heads::sized(own, shp, at) {
+            break 'walk Verdict::No {
+                rule: 13,
+                record: k,
+            };
+        }
         let words = leaves::words_at(shp, at + 4);
-        let p = plans::parts_at(plan, shp, at);
-        let n = plans::points_at(plan, shp, at);
+        let p = plans::parts_at(own, shp, at);
+        let n = plans::points_at(own, shp, at);
         // P14: there is a part, the first one starts at point 0, and each has points enough
-        if !plans::begins(plan, shp, at, p) {
+        if !plans::begins(own, shp, at, p) {
             break 'walk Verdict::No {
                 rule: 14,
                 record: k,
@@ -76,7 +84,7 @@ fn walk(plan: Plan, shp: &[u8], shx: &[u8]) -> Verdict
         'parts: while 0 < left {
             left -= 1;
             let end = leaves::end_of(shp, start, left, n);
-            if end < cur + plan.least {
+            if end < cur + own.least {
                 break 'walk Verdict::No {
                     rule: 14,
                     record: k,
@@ -88,7 +96,7 @@ fn walk(plan: Plan, shp: &[u8], shx: &[u8]) -> Verdict
         // P15: the rings among them are closed
         let pairs = at + 52 + 4 * p;
         let mut next = at + 56;
-        let mut rings = plans::rings_in(plan, p);
+        let mut rings = plans::rings_in(own, p);
         let mut from: usize = 0;
         'rings: while 0 < rings {
             rings -= 1;
@@ -104,7 +112,7 @@ fn walk(plan: Plan, shp: &[u8], shx: &[u8]) -> Verdict
         }
         // P16: the doubles in front of the counts, or of a point, and those behind the starts
         let mut front = at + 12;
-        let mut fronts = plans::front_doubles(plan, words);
+        let mut fronts = plans::front_doubles(own, words);
         'front: while 0 < fronts {
             if !leaves::is_finite(shp, front) {
                 break 'walk Verdict::No {
@@ -116,7 +124,7 @@ fn walk(plan: Plan, shp: &[u8], shx: &[u8]) -> Verdict
             front += 8;
         }
         let mut double = pairs;
-        let mut doubles = plans::back_doubles(plan, words, p);
+        let mut doubles = plans::back_doubles(own, words, p);
         'doubles: while 0 < doubles {
             if !leaves::is_finite(shp, double) {
                 break 'walk Verdict::No {
@@ -146,7 +154,7 @@ fn judge(shp: &[u8], shx: &[u8]) -> Verdict
             record: 0,
         };
     }
-    let Planned::Is(plan) = plans::plan_in(shp) else {
+    let Planned::Is(plan) = plans::plan_of(fields::le_i32_at(shp, 32)) else {
         return Verdict::No { rule: 4, record: 0 };
     };
     let back = heads::back_fault(shp, shx);
@@ -156,7 +164,11 @@ fn judge(shp: &[u8], shx: &[u8]) -> Verdict
             record: 0,
         };
     }
-    walk(plan, shp, shx)
+    let Planned::Is(null) = plans::plan_of(0) else {
+        // which Null is not
+        return Verdict::No { rule: 4, record: 0 };
+    };
+    walk(plan, null, shp, shx)
 }
 
 // The verdict on a .shp and its .shx: by the rules, and by what that means of the shapes in the two files.

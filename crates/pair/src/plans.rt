@@ -1,11 +1,12 @@
-// What the kind that a .shp names settles for each of its records, looked up once for the file.
+// What a kind settles for each record of it: the kind that a .shp names, and Null, each looked up once for the file.
 ghost use mathlib.Core.Path.{_≡_};
 ghost use mathlib.Core.Bool.{true, cond, _&&_, _||_};
 ghost use Prim.Native.Nat.{_+_, _*_, _-_, _/_, _≤_};
 ghost use lib.Dec.{leb, eqb};
 ghost use lib.IntN.{natAbs};
 ghost use lib.ListN.{length};
-ghost use Rattle.rules.specs.Rules.{littleAt, takenIn};
+ghost use Rattle.format.specs.Kinds.{kindAt};
+ghost use Rattle.rules.specs.Rules.{littleAt, takenOf};
 ghost use Rattle.pair.specs.Plans.{Word, Whole, planned};
 use crate::leaves::count;
 use crate::leaves::little;
@@ -55,12 +56,10 @@ fn points_alone(code: u32) -> usize
     if code == 0 { 0 } else { 1 }
 }
 
-// The plan of the kind that a .shp's header names, where it is a taken one.
-pub(crate) fn plan_in(shp: &[u8]) -> Planned
-    requires { ⌜ 100 ≤ length (now shp) ⌝ }
-    ensures { λ r. ⌜ r ≡ planned (takenIn (now (shp .entry))) ⌝ }
+// The plan of the kind with a code, where it is a taken one.
+pub(crate) fn plan_of(code: i32) -> Planned
+    ensures { λ r. ⌜ r ≡ planned (takenOf (kindAt code)) ⌝ }
 {
-    let code = fields::le_i32_at(shp, 32);
     let Found::Is(kind) = format::kinds::find_kind(code) else {
         return Planned::NotTaken;
     };
@@ -78,6 +77,14 @@ pub(crate) fn plan_in(shp: &[u8]) -> Planned
         // which a kind that was found is not
         Content::Unknown(_) => Planned::NotTaken,
     }
+}
+
+// The plan of the record at a place: Null's where its kind's field is 0, else the file's.
+pub(crate) fn own_plan(plan: Plan, null: Plan, s: &[u8], at: usize) -> Plan
+    requires { ⌜ at + 12 ≤ length (now s) ⌝ }
+    ensures { λ r. ⌜ r ≡ cond (eqb (littleAt (at + 8) (now (s .entry))) 0) null plan ⌝ }
+{
+    if little(s, at + 8) == 0 { null } else { plan }
 }
 
 // The counts of the record at a place.

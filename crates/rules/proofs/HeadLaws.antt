@@ -1,4 +1,4 @@
--- The rules of a record's header, entry and counts, a test at a time: what each test makes of its rule, and what a rule that is met tells.
+-- The rules of a record's header, entry, kind and counts, a test at a time: what each test makes of its rule, and what a rule that is met tells.
 use mathlib.Core.Path.{_≡_, refl, sym, _∙_}
 use mathlib.Core.Bool.{Bool, true, false, cond, _&&_, _||_}
 use mathlib.Core.List.{List}
@@ -14,7 +14,7 @@ use Rattle.format.proofs.Equations.{words-are}
 use Rattle.format.proofs.Laid.{nothing-words}
 use Rattle.format.proofs.LengthLaws.{least-words}
 use Rattle.format.proofs.OrderLaws.{both-true}
-use Rattle.rules.specs.Rules.{Taken, bigAt, littleAt, held, wordsOf, partsOf, pointsOf, P9, P10, P11, P13}
+use Rattle.rules.specs.Rules.{Taken, bigAt, littleAt, held, wordsOf, partsOf, pointsOf, P9, P10, P11, P12, P13}
 
 -- ---- P9
 
@@ -73,6 +73,15 @@ module _ (l x : List ℕ) (at : ℕ) where
 
   pub told11 : P11 l x at ≡ true → 8 ≤ length x
   told11 e = leb-true 8 (length x) (both-true _ _ (both-true _ _ (both-true _ (eqb (bigAt 4 x) (wordsOf l)) e .0) .0) .0)
+
+-- ---- P12
+
+module _ (k : Kind) (l : List ℕ) (code : ℕ) (is : littleAt 8 l ≡ code) where
+  pub same12 : code ≡ k .code → true ≡ P12 k l
+  same12 e = rw (eq-eqb (littleAt 8 l) (k .code) (is ∙ e))
+
+  pub last12 : (code ≡ k .code → ⊥) → eqb code 0 ≡ P12 k l
+  last12 n = rw (is, ne-eqb code (k .code) n)
 
 -- ---- P13
 

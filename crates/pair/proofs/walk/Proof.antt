@@ -9,53 +9,54 @@ use lib.ListN.{length, drop}
 use borrow.Author.Needs.{needs}
 use borrow.Author.Tests.{not-true, not-false}
 use Rattle.format.specs.Said.{Said}
-use Rattle.rules.specs.Rules.{Counts, bigAt, partsLong, ringsClosed, finites, none-yet, walkFrom}
+use Rattle.rules.specs.Rules.{Counts, bigAt, P13, partsLong, ringsClosed, finites, none-yet, walkFrom}
 use Rattle.rules.proofs.Turns.{Part, part, parts-go, parts-no, parts-done, rings-go, rings-no, rings-done, finites-go, finites-no, finites-done}
 use Rattle.rules.proofs.WalkLaws.{left-over, all-behind}
 use Rattle.pair.specs.declared.plans.Plan.{Plan}
 use Rattle.pair.specs.Plans.{Whole, takenFrom}
+use Rattle.pair.proofs.PlanLaws.{owned}
 use Rattle.pair.proofs.UnitLaws.{field-whole, field-count}
-use Rattle.pair.proofs.WalkLaws.{Walked, Open, Room, room, Here, Fit, fit, counts-room, no-head, begins, long, closed, front, long-rings, few-rings, no14-first, no14, no15, no16-front, no16, next}
+use Rattle.pair.proofs.WalkLaws.{Walked, Open, Within, within, counted, Here, Fit, fit, counts-room, no-head, no13, begins, long, closed, front, long-rings, few-rings, no14-first, no14, no15, no16-front, no16, next}
 use Rattle.pair.proofs.walk.Statement.{statement}
 use Rattle.pair.proofs.walk.Tie as tie
 
 abbrev Inv-parts : tie.InvT-parts
-Inv-parts plan shp shx at ix records parts points k fault words p n start₀ left₀ cur₀ start left cur =
+Inv-parts plan null shp shx at ix records parts points k fault own words p n start₀ left₀ cur₀ start left cur =
     (start + 4 * left ≡ start₀ + 4 * left₀) × (left ≤ left₀) × (cur < 2 ^ 32)
-    × (partsLong (plan .least) left start cur n shp ≡ partsLong (plan .least) left₀ start₀ cur₀ n shp)
+    × (partsLong (own .least) left start cur n shp ≡ partsLong (own .least) left₀ start₀ cur₀ n shp)
 
 abbrev μ-parts : tie.MeasureT-parts
-μ-parts plan shp shx at ix records parts points k fault words p n start₀ left₀ cur₀ start left cur = left
+μ-parts plan null shp shx at ix records parts points k fault own words p n start₀ left₀ cur₀ start left cur = left
 
 abbrev Inv-rings : tie.InvT-rings
-Inv-rings plan shp shx at ix records parts points k fault words p n start left cur pairs next₀ rings₀ from₀ next rings from =
-    (next + 4 * rings ≡ next₀ + 4 * rings₀) × (rings ≤ rings₀) × (partsLong (plan .least) rings next from n shp ≡ true)
+Inv-rings plan null shp shx at ix records parts points k fault own words p n start left cur pairs next₀ rings₀ from₀ next rings from =
+    (next + 4 * rings ≡ next₀ + 4 * rings₀) × (rings ≤ rings₀) × (partsLong (own .least) rings next from n shp ≡ true)
     × (ringsClosed pairs rings next from n shp ≡ ringsClosed pairs rings₀ next₀ from₀ n shp)
 
 abbrev μ-rings : tie.MeasureT-rings
-μ-rings plan shp shx at ix records parts points k fault words p n start left cur pairs next₀ rings₀ from₀ next rings from = rings
+μ-rings plan null shp shx at ix records parts points k fault own words p n start left cur pairs next₀ rings₀ from₀ next rings from = rings
 
 abbrev Inv-front : tie.InvT-front
-Inv-front plan shp shx at ix records parts points k fault words p n start left cur pairs next rings from front₀ fronts₀ front fronts =
+Inv-front plan null shp shx at ix records parts points k fault own words p n start left cur pairs next rings from front₀ fronts₀ front fronts =
     (front + 8 * fronts ≡ front₀ + 8 * fronts₀) × (finites fronts front shp ≡ finites fronts₀ front₀ shp)
 
 abbrev μ-front : tie.MeasureT-front
-μ-front plan shp shx at ix records parts points k fault words p n start left cur pairs next rings from front₀ fronts₀ front fronts = fronts
+μ-front plan null shp shx at ix records parts points k fault own words p n start left cur pairs next rings from front₀ fronts₀ front fronts = fronts
 
 abbrev Inv-doubles : tie.InvT-doubles
-Inv-doubles plan shp shx at ix records parts points k fault words p n start left cur pairs next rings from front fronts double₀ doubles₀ double doubles =
+Inv-doubles plan null shp shx at ix records parts points k fault words p n start left cur pairs next rings from front fronts double₀ doubles₀ double doubles =
     (double + 8 * doubles ≡ double₀ + 8 * doubles₀) × (doubles ≤ doubles₀)
     × (finites doubles double shp ≡ finites doubles₀ double₀ shp)
 
 abbrev μ-doubles : tie.MeasureT-doubles
-μ-doubles plan shp shx at ix records parts points k fault words p n start left cur pairs next rings from front fronts double₀ doubles₀ double doubles = doubles
+μ-doubles plan null shp shx at ix records parts points k fault words p n start left cur pairs next rings from front fronts double₀ doubles₀ double doubles = doubles
 
 abbrev Inv-walk : tie.InvT-walk
-Inv-walk plan shp shx at₀ ix₀ records₀ parts₀ points₀ at ix records parts points =
+Inv-walk plan null shp shx at₀ ix₀ records₀ parts₀ points₀ at ix records parts points =
     Walked plan shp shx at ix records parts points (walkFrom (takenFrom plan) (drop 100 shp) (drop 100 shx) 100 none-yet)
 
 abbrev μ-walk : tie.MeasureT-walk
-μ-walk plan shp shx at₀ ix₀ records₀ parts₀ points₀ at ix records parts points = length shp - at
+μ-walk plan null shp shx at₀ ix₀ records₀ parts₀ points₀ at ix records parts points = length shp - at
 
 -- ---- the places of the code that the lemmas speak of
 
@@ -65,8 +66,14 @@ Turn = tie.At-walk Inv-parts μ-parts Inv-rings μ-rings Inv-front μ-front Inv-
 abbrev Inside : Type 0
 Inside = tie.Else1 Inv-parts μ-parts Inv-rings μ-rings Inv-front μ-front Inv-doubles μ-doubles Inv-walk μ-walk
 
+abbrev Headed : Type 0
+Headed = tie.Else3 Inv-parts μ-parts Inv-rings μ-rings Inv-front μ-front Inv-doubles μ-doubles Inv-walk μ-walk
+
+abbrev Owned : Type 0
+Owned = tie.After-own-plan Inv-parts μ-parts Inv-rings μ-rings Inv-front μ-front Inv-doubles μ-doubles Inv-walk μ-walk
+
 abbrev Opened : Type 0
-Opened = tie.Else3 Inv-parts μ-parts Inv-rings μ-rings Inv-front μ-front Inv-doubles μ-doubles Inv-walk μ-walk
+Opened = tie.Else4 Inv-parts μ-parts Inv-rings μ-rings Inv-front μ-front Inv-doubles μ-doubles Inv-walk μ-walk
 
 abbrev Worded : Type 0
 Worded = tie.After-words-at Inv-parts μ-parts Inv-rings μ-rings Inv-front μ-front Inv-doubles μ-doubles Inv-walk μ-walk
@@ -75,7 +82,7 @@ abbrev Counted : Type 0
 Counted = tie.After-points-at Inv-parts μ-parts Inv-rings μ-rings Inv-front μ-front Inv-doubles μ-doubles Inv-walk μ-walk
 
 abbrev Begun : Type 0
-Begun = tie.Else4 Inv-parts μ-parts Inv-rings μ-rings Inv-front μ-front Inv-doubles μ-doubles Inv-walk μ-walk
+Begun = tie.Else5 Inv-parts μ-parts Inv-rings μ-rings Inv-front μ-front Inv-doubles μ-doubles Inv-walk μ-walk
 
 abbrev Part-turn : Type 0
 Part-turn = tie.In-parts Inv-parts μ-parts Inv-rings μ-rings Inv-front μ-front Inv-doubles μ-doubles Inv-walk μ-walk
@@ -112,8 +119,17 @@ shx-of c = c .before .before .before .args .shx .now
 abbrev whole : (c : Turn) → Said Counts
 whole c = walkFrom (takenFrom (plan-of c)) (drop 100 (shp-of c)) (drop 100 (shx-of c)) 100 none-yet
 
+abbrev head : (c : Counted) → Headed
+head c = c .before .before .before .before .before .before
+
+abbrev inside : (c : Counted) → Inside
+inside c = head c .before .before
+
 abbrev turn : (c : Counted) → Turn
-turn c = c .before .before .before .before .before .before
+turn c = inside c .before
+
+abbrev own-of : (c : Counted) → Plan
+own-of c = c .before .before .before .before .before .own-plan .result
 
 abbrev w-of : (c : Counted) → ℕ
 w-of c = natAbs (c .before .before .words-at .result .0)
@@ -132,47 +148,61 @@ pairs-of c = turn c .walk .at + 52 + 4 * p-of c
 small : (c : Inside) → (c .before .walk .records < 2 ^ 63) × (c .before .walk .at < 2 ^ 63) × (c .before .walk .ix < 2 ^ 63)
 small c = (omega arith, omega arith, omega arith)
 
-opened : (c : Opened) → Open (plan-of (c .before .before .before)) (shp-of (c .before .before .before)) (shx-of (c .before .before .before)) (c .before .before .before .walk .at) (c .before .before .before .walk .ix) (c .before .before .before .walk .records)
+headed : (c : Headed) → Within (shp-of (c .before .before .before)) (shx-of (c .before .before .before)) (c .before .before .before .walk .at) (c .before .before .before .walk .ix) (bigAt (c .before .before .before .walk .at + 4) (shp-of (c .before .before .before)))
+headed c =
+    let t = c .before .before .before in
+    within (plan-of t .kind) (shp-of t) (shx-of t) (t .walk .at) (t .walk .ix) (t .walk .records) (c .before .before .if1 .left) (sym (c .if3 .left) ∙ c .before .head-fault .ensures) _ refl
+
+opened : (c : Owned) → Open (plan-of (c .before .before .before .before)) (c .own-plan .result) (shp-of (c .before .before .before .before)) (shx-of (c .before .before .before .before)) (c .before .before .before .before .walk .at) (c .before .before .before .before .walk .ix) (c .before .before .before .before .walk .records)
 opened c =
-    let s = c .before .before .before .before .before .before in
-    record { is = s .pre .0; ringed = s .pre .1; inside = c .before .before .if1 .left; hd = sym (c .if3 .left) ∙ c .before .head-fault .ensures }
+    let h = c .before in
+    let t = h .before .before .before in
+    let s = t .before .before .before in
+    record {
+      inside = h .before .before .if1 .left;
+      hd = sym (h .if3 .left) ∙ h .before .head-fault .ensures;
+      owned = owned (s .args .plan) (s .args .null) (c .own-plan .result) (s .pre .0) (s .pre .1) (s .pre .2) (shp-of t) (t .walk .at) (c .own-plan .ensures);
+    }
+
+-- its length is one that its counts give
+length-fits : (c : Opened) → P13 (takenFrom (c .before .before .own-plan .result)) (drop (c .before .before .before .before .before .before .walk .at) (shp-of (c .before .before .before .before .before .before))) ≡ true
+length-fits c = sym (c .before .sized .ensures) ∙ not-false _ (c .if4 .left)
 
 -- its words, which an i32 holds
-words-held : (c : Worded) → bigAt (c .before .before .before .before .walk .at + 4) (shp-of (c .before .before .before .before)) < 2 ^ 31
-words-held c = room (opened (c .before)) (bigAt (c .before .before .before .before .walk .at + 4) (shp-of (c .before .before .before .before))) refl .held
-
-words-are : (c : Worded) → natAbs (c .words-at .result .0) ≡ bigAt (c .before .before .before .before .walk .at + 4) (shp-of (c .before .before .before .before))
-words-are c = field-count _ _ (c .words-at .ensures) (words-held c)
+words-are : (c : Worded) → natAbs (c .words-at .result .0) ≡ bigAt (c .before .before .before .before .before .before .before .walk .at + 4) (shp-of (c .before .before .before .before .before .before .before))
+words-are c = field-count _ _ (c .words-at .ensures) (headed (c .before .before .before .before) .held)
 
 words-whole : (c : Worded) → Whole (c .words-at .result)
-words-whole c = field-whole _ _ (c .words-at .ensures) (words-held c)
+words-whole c = field-whole _ _ (c .words-at .ensures) (headed (c .before .before .before .before) .held)
 
-worded : (c : Worded) → Room (plan-of (c .before .before .before .before)) (shp-of (c .before .before .before .before)) (shx-of (c .before .before .before .before)) (c .before .before .before .before .walk .at) (c .before .before .before .before .walk .ix) (natAbs (c .words-at .result .0))
-worded c = room (opened (c .before)) (natAbs (c .words-at .result .0)) (words-are c)
+-- where it has parts, there is room for its counts
+parted : (c : Worded) → c .before .before .before .own-plan .result .parts ≡ true → c .before .before .before .before .before .before .before .walk .at + 52 ≤ length (shp-of (c .before .before .before .before .before .before .before))
+parted c e = omega (arith, headed (c .before .before .before .before) .within, words-are c, counted (opened (c .before .before .before)) (length-fits (c .before)) _ (words-are c) e)
 
-here : (c : Counted) → Here (plan-of (turn c)) (shp-of (turn c)) (shx-of (turn c)) (turn c .walk .at) (turn c .walk .ix) (turn c .walk .records) (turn c .walk .parts) (turn c .walk .points) (w-of c) (p-of c) (n-of c) (whole (turn c))
+here : (c : Counted) → Here (plan-of (turn c)) (own-of c) (shp-of (turn c)) (shx-of (turn c)) (turn c .walk .at) (turn c .walk .ix) (turn c .walk .records) (turn c .walk .parts) (turn c .walk .points) (w-of c) (p-of c) (n-of c) (whole (turn c))
 here c =
     record {
-      opened = opened (c .before .before .before);
+      opened = opened (c .before .before .before .before .before);
+      sized = length-fits (c .before .before .before);
       we = words-are (c .before .before);
       pe = c .before .parts-at .ensures .value;
       ne = c .points-at .ensures;
       rest = turn c .walk .inv .rest;
     }
 
-fitted : (c : Counted) → Fit (plan-of (turn c)) (shp-of (turn c)) (shx-of (turn c)) (turn c .walk .at) (turn c .walk .ix) (w-of c) (p-of c) (n-of c)
+fitted : (c : Counted) → Fit (own-of c) (shp-of (turn c)) (shx-of (turn c)) (turn c .walk .at) (turn c .walk .ix) (w-of c) (p-of c) (n-of c)
 fitted c = fit (here c)
 
 -- ---- what holds behind each loop
 
 begun : (c : Begun) → begins (here (c .before .before)) ≡ true
-begun c = sym (c .before .begins .ensures) ∙ not-false _ (c .if4 .left)
+begun c = sym (c .before .begins .ensures) ∙ not-false _ (c .if5 .left)
 
 lengthy : (c : Lengthy) → long (here (c .before .before .before .before)) ≡ true
 lengthy c =
     let k = c .before .before .before .before in
     let l = c .before .parts in
-    sym (l .inv .3) ∙ parts-done (shp-of (turn k)) (n-of k) (plan-of (turn k) .least) (l .start) (l .cur) (l .left) (c .parts-test .left)
+    sym (l .inv .3) ∙ parts-done (shp-of (turn k)) (n-of k) (own-of k .least) (l .start) (l .cur) (l .left) (c .parts-test .left)
 
 all-closed : (c : Closed) → closed (here (c .before .before .before .before .before .before .before)) ≡ true
 all-closed c =
@@ -192,16 +222,16 @@ part-room : (c : Part-turn) → 22 + 2 * p-of (c .before .before .before .before
 part-room c = fitted (c .before .before .before .before) .in-parts (omega (arith, c .parts-test .taken, c .before .parts .inv .1))
 
 few : (c : Ring-turn) → c .before .before .rings-in .result ≤ p-of (c .before .before .before .before .before .before .before)
-few c = rw (c .before .before .rings-in .ensures) (few-rings (plan-of (turn (c .before .before .before .before .before .before .before)) .rings) (p-of (c .before .before .before .before .before .before .before)))
+few c = rw (c .before .before .rings-in .ensures) (few-rings (own-of (c .before .before .before .before .before .before .before) .rings) (p-of (c .before .before .before .before .before .before .before)))
 
 ring-room : (c : Ring-turn) → 22 + 2 * p-of (c .before .before .before .before .before .before .before) + 8 * n-of (c .before .before .before .before .before .before .before) ≤ w-of (c .before .before .before .before .before .before .before)
 ring-room c = fitted (c .before .before .before .before .before .before .before) .in-parts (omega (arith, c .rings-test .taken, c .before .rings .inv .1, few c))
 
-ring : (c : Ring-ended) → Part (shp-of (turn (c .before .before .before .before .before .before .before .before))) (n-of (c .before .before .before .before .before .before .before .before)) (plan-of (turn (c .before .before .before .before .before .before .before .before)) .least) (c .before .before .rings .next) (c .before .before .rings .from) (c .before .before .rings .rings) (c .end-of2 .result)
+ring : (c : Ring-ended) → Part (shp-of (turn (c .before .before .before .before .before .before .before .before))) (n-of (c .before .before .before .before .before .before .before .before)) (own-of (c .before .before .before .before .before .before .before .before) .least) (c .before .before .rings .next) (c .before .before .rings .from) (c .before .before .rings .rings) (c .end-of2 .result)
 ring c =
     let k = c .before .before .before .before .before .before .before .before in
     let l = c .before .before .rings in
-    part (shp-of (turn k)) (n-of k) (plan-of (turn k) .least) (l .next) (l .from) (l .rings) (c .end-of2 .result) (c .before .rings-test .taken) (c .end-of2 .ensures .value) (l .inv .2)
+    part (shp-of (turn k)) (n-of k) (own-of k .least) (l .next) (l .from) (l .rings) (c .end-of2 .result) (c .before .rings-test .taken) (c .end-of2 .ensures .value) (l .inv .2)
 
 double-room : (c : Double-turn) → 52 + 4 * p-of (c .before .before .before .before .before .before .before .before .before .before .before .before .before) + 8 * c .before .before .back-doubles .result ≤ 8 + 2 * w-of (c .before .before .before .before .before .before .before .before .before .before .before .before .before)
 double-room c =
@@ -214,8 +244,8 @@ double-room c =
 walk-holds : tie.Need-walk-holds Inv-parts μ-parts Inv-rings μ-rings Inv-front μ-front Inv-doubles μ-doubles Inv-walk μ-walk
 walk-holds c =
     record {
-      low = c .before .before .pre .2;
-      xlow = c .before .before .pre .3;
+      low = c .before .before .pre .3;
+      xlow = c .before .before .pre .4;
       few = omega arith;
       few-parts = omega arith;
       few-points = omega arith;
@@ -223,24 +253,28 @@ walk-holds c =
     }
 
 head-fault-requires : tie.Need-head-fault-requires Inv-parts μ-parts Inv-rings μ-rings Inv-front μ-front Inv-doubles μ-doubles Inv-walk μ-walk
-head-fault-requires c κs = (c .before .before .before .before .pre .0, c .before .walk .inv .low, c .before .walk .inv .xlow)
+head-fault-requires c κs = (c .before .walk .inv .low, c .before .walk .inv .xlow)
+
+own-plan-requires : tie.Need-own-plan-requires Inv-parts μ-parts Inv-rings μ-rings Inv-front μ-front Inv-doubles μ-doubles Inv-walk μ-walk
+own-plan-requires c κs = let r = headed c in omega (arith, r .within, r .some)
+
+sized-requires : tie.Need-sized-requires Inv-parts μ-parts Inv-rings μ-rings Inv-front μ-front Inv-doubles μ-doubles Inv-walk μ-walk
+sized-requires c κs = let r = headed (c .before) in (opened c .owned .is, omega (arith, r .within), r .held)
 
 words-at-requires : tie.Need-words-at-requires Inv-parts μ-parts Inv-rings μ-rings Inv-front μ-front Inv-doubles μ-doubles Inv-walk μ-walk
-words-at-requires c κs =
-    let r = room (opened c) (bigAt (c .before .before .before .walk .at + 4) (shp-of (c .before .before .before))) refl in
-    omega (arith, r .within)
+words-at-requires c κs = omega (arith, headed (c .before .before .before) .within)
 
 parts-at-requires : tie.Need-parts-at-requires Inv-parts μ-parts Inv-rings μ-rings Inv-front μ-front Inv-doubles μ-doubles Inv-walk μ-walk
-parts-at-requires c κs = λ e. let r = worded c in omega (arith, r .within, r .parted e)
+parts-at-requires c κs = parted c
 
 points-at-requires : tie.Need-points-at-requires Inv-parts μ-parts Inv-rings μ-rings Inv-front μ-front Inv-doubles μ-doubles Inv-walk μ-walk
-points-at-requires c κs = λ e. let r = worded (c .before) in omega (arith, r .within, r .parted e)
+points-at-requires c κs = parted (c .before)
 
 begins-requires : tie.Need-begins-requires Inv-parts μ-parts Inv-rings μ-rings Inv-front μ-front Inv-doubles μ-doubles Inv-walk μ-walk
 begins-requires c κs = λ e. omega (arith, counts-room (here c) e, fitted c .within)
 
 add-start : tie.Need-add-start Inv-parts μ-parts Inv-rings μ-rings Inv-front μ-front Inv-doubles μ-doubles Inv-walk μ-walk
-add-start c = omega (arith, small (c .before .before .before .before .before .before .before))
+add-start c = omega (arith, small (inside (c .before .before)))
 
 parts-holds : tie.Need-parts-holds Inv-parts μ-parts Inv-rings μ-rings Inv-front μ-front Inv-doubles μ-doubles Inv-walk μ-walk
 parts-holds c = (refl, omega arith, omega arith, refl)
@@ -250,13 +284,13 @@ end-of-requires c κs =
     let f = fitted (c .before .before .before .before) in
     omega (arith, part-room c, f .within, f .few-points, f .held, c .before .parts .inv .0, c .before .parts .inv .1, c .parts-test .taken)
 
-add-if5 : tie.Need-add-if5 Inv-parts μ-parts Inv-rings μ-rings Inv-front μ-front Inv-doubles μ-doubles Inv-walk μ-walk
-add-if5 c = omega (arith, c .before .before .before .parts .inv .2, fitted (c .before .before .before .before .before .before) .least-few)
+add-if6 : tie.Need-add-if6 Inv-parts μ-parts Inv-rings μ-rings Inv-front μ-front Inv-doubles μ-doubles Inv-walk μ-walk
+add-if6 c = omega (arith, c .before .before .before .parts .inv .2, fitted (c .before .before .before .before .before .before) .least-few)
 
 add-start-2 : tie.Need-add-start-2 Inv-parts μ-parts Inv-rings μ-rings Inv-front μ-front Inv-doubles μ-doubles Inv-walk μ-walk
 add-start-2 c =
     let f = fitted (c .before .before .before .before .before .before .before) in
-    omega (arith, part-room (c .before .before .before), f .held, c .before .before .before .before .parts .inv .0, small (c .before .before .before .before .before .before .before .before .before .before .before .before))
+    omega (arith, part-room (c .before .before .before), f .held, c .before .before .before .before .parts .inv .0, small (inside (c .before .before .before .before .before .before .before)))
 
 parts-again : tie.Need-parts-again Inv-parts μ-parts Inv-rings μ-rings Inv-front μ-front Inv-doubles μ-doubles Inv-walk μ-walk
 parts-again c =
@@ -266,26 +300,26 @@ parts-again c =
       omega (arith, l .inv .0, t),
       omega (arith, l .inv .1),
       c .before .before .end-of .ensures .small,
-      parts-go (shp-of (turn k)) (n-of k) (plan-of (turn k) .least) (l .start) (l .cur) (c .before .before .end-of .result) (l .left) t (c .before .before .end-of .ensures .value) (c .if5 .left)
+      parts-go (shp-of (turn k)) (n-of k) (own-of k .least) (l .start) (l .cur) (c .before .before .end-of .result) (l .left) t (c .before .before .end-of .ensures .value) (c .if6 .left)
           ∙ l .inv .3,
     )
 
 add-pairs : tie.Need-add-pairs Inv-parts μ-parts Inv-rings μ-rings Inv-front μ-front Inv-doubles μ-doubles Inv-walk μ-walk
-add-pairs c = omega (arith, small (c .before .before .before .before .before .before .before .before .before))
+add-pairs c = omega (arith, small (inside (c .before .before .before .before)))
 
 mul-pairs : tie.Need-mul-pairs Inv-parts μ-parts Inv-rings μ-rings Inv-front μ-front Inv-doubles μ-doubles Inv-walk μ-walk
 mul-pairs c = omega (arith, c .before .before .before .before .before .parts-at .ensures .small)
 
 add-pairs-2 : tie.Need-add-pairs-2 Inv-parts μ-parts Inv-rings μ-rings Inv-front μ-front Inv-doubles μ-doubles Inv-walk μ-walk
-add-pairs-2 c = omega (arith, small (c .before .before .before .before .before .before .before .before .before), c .before .before .before .before .before .parts-at .ensures .small)
+add-pairs-2 c = omega (arith, small (inside (c .before .before .before .before)), c .before .before .before .before .before .parts-at .ensures .small)
 
 add-next : tie.Need-add-next Inv-parts μ-parts Inv-rings μ-rings Inv-front μ-front Inv-doubles μ-doubles Inv-walk μ-walk
-add-next c = omega (arith, small (c .before .before .before .before .before .before .before .before .before))
+add-next c = omega (arith, small (inside (c .before .before .before .before)))
 
 rings-holds : tie.Need-rings-holds Inv-parts μ-parts Inv-rings μ-rings Inv-front μ-front Inv-doubles μ-doubles Inv-walk μ-walk
 rings-holds c =
     let k = c .before .before .before .before .before in
-    let r = plan-of (turn k) in (
+    let r = own-of k in (
       refl,
       omega arith,
       rw (c .rings-in .ensures) (long-rings (r .rings) (shp-of (turn k)) (n-of k) (r .least) (turn k .walk .at + 56) 0 (p-of k) (lengthy (c .before))),
@@ -306,7 +340,7 @@ closed-requires c κs =
 add-next-2 : tie.Need-add-next-2 Inv-parts μ-parts Inv-rings μ-rings Inv-front μ-front Inv-doubles μ-doubles Inv-walk μ-walk
 add-next-2 c =
     let f = fitted (c .before .before .before .before .before .before .before .before .before .before) in
-    omega (arith, few (c .before .before .before), f .few-parts, f .held, c .before .before .before .before .rings .inv .0, small (c .before .before .before .before .before .before .before .before .before .before .before .before .before .before .before))
+    omega (arith, few (c .before .before .before), f .few-parts, f .held, c .before .before .before .before .rings .inv .0, small (inside (c .before .before .before .before .before .before .before .before .before .before)))
 
 rings-again : tie.Need-rings-again Inv-parts μ-parts Inv-rings μ-rings Inv-front μ-front Inv-doubles μ-doubles Inv-walk μ-walk
 rings-again c =
@@ -316,17 +350,17 @@ rings-again c =
       omega (arith, l .inv .0, t),
       omega (arith, l .inv .1),
       ring (c .before .before) .others,
-      rings-go (shp-of (turn k)) (n-of k) (pairs-of k) (l .next) (l .from) (c .before .before .end-of2 .result) (l .rings) t (c .before .before .end-of2 .ensures .value) (sym (c .before .closed .ensures) ∙ not-false _ (c .if6 .left))
+      rings-go (shp-of (turn k)) (n-of k) (pairs-of k) (l .next) (l .from) (c .before .before .end-of2 .result) (l .rings) t (c .before .before .end-of2 .ensures .value) (sym (c .before .closed .ensures) ∙ not-false _ (c .if7 .left))
           ∙ l .inv .3,
     )
 
 add-front : tie.Need-add-front Inv-parts μ-parts Inv-rings μ-rings Inv-front μ-front Inv-doubles μ-doubles Inv-walk μ-walk
-add-front c = omega (arith, small (c .before .before .before .before .before .before .before .before .before .before .before .before))
+add-front c = omega (arith, small (inside (c .before .before .before .before .before .before .before)))
 
 front-doubles-requires : tie.Need-front-doubles-requires Inv-parts μ-parts Inv-rings μ-rings Inv-front μ-front Inv-doubles μ-doubles Inv-walk μ-walk
 front-doubles-requires c κs =
     let w = c .before .before .before .before .before .before .before .before .before in
-    (words-whole w, worded w .some)
+    (words-whole w, rw (words-are w) (headed (w .before .before .before .before) .some))
 
 front-holds : tie.Need-front-holds Inv-parts μ-parts Inv-rings μ-rings Inv-front μ-front Inv-doubles μ-doubles Inv-walk μ-walk
 front-holds c = (refl, refl)
@@ -339,13 +373,13 @@ is-finite-requires c κs =
 add-front-2 : tie.Need-add-front-2 Inv-parts μ-parts Inv-rings μ-rings Inv-front μ-front Inv-doubles μ-doubles Inv-walk μ-walk
 add-front-2 c =
     let f = fitted (c .before .before .before .before .before .before .before .before .before .before .before .before) in
-    omega (arith, f .in-front, f .held, c .before .before .before .before .front-doubles .ensures, c .before .before .before .front .inv .0, small (c .before .before .before .before .before .before .before .before .before .before .before .before .before .before .before .before .before))
+    omega (arith, f .in-front, f .held, c .before .before .before .before .front-doubles .ensures, c .before .before .before .front .inv .0, small (inside (c .before .before .before .before .before .before .before .before .before .before .before .before)))
 
 front-again : tie.Need-front-again Inv-parts μ-parts Inv-rings μ-rings Inv-front μ-front Inv-doubles μ-doubles Inv-walk μ-walk
 front-again c =
     let l = c .before .before .before .front in
     let t = c .before .before .front-test .taken in
-    (omega (arith, l .inv .0, t), finites-go _ (l .front) (l .fronts) t (sym (c .before .is-finite .ensures) ∙ not-false _ (c .if7 .left)) ∙ l .inv .1)
+    (omega (arith, l .inv .0, t), finites-go _ (l .front) (l .fronts) t (sym (c .before .is-finite .ensures) ∙ not-false _ (c .if8 .left)) ∙ l .inv .1)
 
 back-doubles-requires : tie.Need-back-doubles-requires Inv-parts μ-parts Inv-rings μ-rings Inv-front μ-front Inv-doubles μ-doubles Inv-walk μ-walk
 back-doubles-requires c κs =
@@ -363,7 +397,7 @@ is-finite-requires-2 c κs =
 add-double : tie.Need-add-double Inv-parts μ-parts Inv-rings μ-rings Inv-front μ-front Inv-doubles μ-doubles Inv-walk μ-walk
 add-double c =
     let f = fitted (c .before .before .before .before .before .before .before .before .before .before .before .before .before .before .before) in
-    omega (arith, double-room (c .before .before), f .held, c .before .before .before .doubles .inv .0, small (c .before .before .before .before .before .before .before .before .before .before .before .before .before .before .before .before .before .before .before .before))
+    omega (arith, double-room (c .before .before), f .held, c .before .before .before .doubles .inv .0, small (inside (c .before .before .before .before .before .before .before .before .before .before .before .before .before .before .before)))
 
 doubles-again : tie.Need-doubles-again Inv-parts μ-parts Inv-rings μ-rings Inv-front μ-front Inv-doubles μ-doubles Inv-walk μ-walk
 doubles-again c =
@@ -371,7 +405,7 @@ doubles-again c =
     let t = c .before .before .doubles-test .taken in (
       omega (arith, l .inv .0, t),
       omega (arith, l .inv .1),
-      finites-go _ (l .double) (l .doubles) t (sym (c .before .is-finite2 .ensures) ∙ not-false _ (c .if8 .left)) ∙ l .inv .2,
+      finites-go _ (l .double) (l .doubles) t (sym (c .before .is-finite2 .ensures) ∙ not-false _ (c .if9 .left)) ∙ l .inv .2,
     )
 
 in-bytes-requires : tie.Need-in-bytes-requires Inv-parts μ-parts Inv-rings μ-rings Inv-front μ-front Inv-doubles μ-doubles Inv-walk μ-walk
@@ -381,28 +415,28 @@ add-at : tie.Need-add-at Inv-parts μ-parts Inv-rings μ-rings Inv-front μ-fron
 add-at c = omega (arith, c .in-bytes .ensures, fitted (c .before .before .before .before .before .before .before .before .before .before .before .before .before .before) .held)
 
 add-at-2 : tie.Need-add-at-2 Inv-parts μ-parts Inv-rings μ-rings Inv-front μ-front Inv-doubles μ-doubles Inv-walk μ-walk
-add-at-2 c = omega (arith, c .in-bytes .ensures, fitted (c .before .before .before .before .before .before .before .before .before .before .before .before .before .before) .held, small (c .before .before .before .before .before .before .before .before .before .before .before .before .before .before .before .before .before .before .before))
+add-at-2 c = omega (arith, c .in-bytes .ensures, fitted (c .before .before .before .before .before .before .before .before .before .before .before .before .before .before) .held, small (inside (c .before .before .before .before .before .before .before .before .before .before .before .before .before .before)))
 
 add-ix : tie.Need-add-ix Inv-parts μ-parts Inv-rings μ-rings Inv-front μ-front Inv-doubles μ-doubles Inv-walk μ-walk
-add-ix c = omega (arith, small (c .before .before .before .before .before .before .before .before .before .before .before .before .before .before .before .before .before .before .before))
+add-ix c = omega (arith, small (inside (c .before .before .before .before .before .before .before .before .before .before .before .before .before .before)))
 
 add-parts : tie.Need-add-parts Inv-parts μ-parts Inv-rings μ-rings Inv-front μ-front Inv-doubles μ-doubles Inv-walk μ-walk
 add-parts c =
     let f = fitted (c .before .before .before .before .before .before .before .before .before .before .before .before .before .before) in
-    omega (arith, c .before .before .before .before .before .before .before .before .before .before .before .before .before .before .before .before .before .before .before .before .walk .inv .few-parts, f .few-parts, f .held, small (c .before .before .before .before .before .before .before .before .before .before .before .before .before .before .before .before .before .before .before))
+    omega (arith, turn (c .before .before .before .before .before .before .before .before .before .before .before .before .before .before) .walk .inv .few-parts, f .few-parts, f .held, small (inside (c .before .before .before .before .before .before .before .before .before .before .before .before .before .before)))
 
 add-points : tie.Need-add-points Inv-parts μ-parts Inv-rings μ-rings Inv-front μ-front Inv-doubles μ-doubles Inv-walk μ-walk
 add-points c =
     let f = fitted (c .before .before .before .before .before .before .before .before .before .before .before .before .before .before) in
-    omega (arith, c .before .before .before .before .before .before .before .before .before .before .before .before .before .before .before .before .before .before .before .before .walk .inv .few-points, f .few-points, f .held, small (c .before .before .before .before .before .before .before .before .before .before .before .before .before .before .before .before .before .before .before))
+    omega (arith, turn (c .before .before .before .before .before .before .before .before .before .before .before .before .before .before) .walk .inv .few-points, f .few-points, f .held, small (inside (c .before .before .before .before .before .before .before .before .before .before .before .before .before .before)))
 
 walk-less : tie.Need-walk-less Inv-parts μ-parts Inv-rings μ-rings Inv-front μ-front Inv-doubles μ-doubles Inv-walk μ-walk
-walk-less c = omega (arith, c .in-bytes .ensures, c .before .before .before .before .before .before .before .before .before .before .before .before .before .before .before .before .before .before .before .if1 .left)
+walk-less c = omega (arith, c .in-bytes .ensures, inside (c .before .before .before .before .before .before .before .before .before .before .before .before .before .before) .if1 .left)
 
 walk-again : tie.Need-walk-again Inv-parts μ-parts Inv-rings μ-rings Inv-front μ-front Inv-doubles μ-doubles Inv-walk μ-walk
 walk-again c =
     let f = fitted (c .before .before .before .before .before .before .before .before .before .before .before .before .before .before) in
-    let w = c .before .before .before .before .before .before .before .before .before .before .before .before .before .before .before .before .before .before .before .before .walk .inv in
+    let w = turn (c .before .before .before .before .before .before .before .before .before .before .before .before .before .before) .walk .inv in
     let l = c .before .before .doubles in
     let e = c .in-bytes .ensures in
     record {
@@ -431,38 +465,44 @@ returns-3 c =
     ∙ w .inv .rest
 
 returns-4 : tie.Need-returns-4 Inv-parts μ-parts Inv-rings μ-rings Inv-front μ-front Inv-doubles μ-doubles Inv-walk μ-walk
-returns-4 c = no14-first (here (c .before .before)) (sym (c .before .begins .ensures) ∙ not-true _ (c .if4 .taken))
+returns-4 c =
+    let o = c .before .before in
+    let w = o .before .before .before .before .walk in
+    no13 (opened o) (w .parts) (w .points) (w .inv .rest) (sym (c .before .sized .ensures) ∙ not-true _ (c .if4 .taken))
 
 returns-5 : tie.Need-returns-5 Inv-parts μ-parts Inv-rings μ-rings Inv-front μ-front Inv-doubles μ-doubles Inv-walk μ-walk
-returns-5 c =
+returns-5 c = no14-first (here (c .before .before)) (sym (c .before .begins .ensures) ∙ not-true _ (c .if5 .taken))
+
+returns-6 : tie.Need-returns-6 Inv-parts μ-parts Inv-rings μ-rings Inv-front μ-front Inv-doubles μ-doubles Inv-walk μ-walk
+returns-6 c =
     let k = c .before .before .before .before .before .before .before in
     let l = c .before .before .before .before .parts in
     no14 (here k) (begun (c .before .before .before .before .before))
     (sym (l .inv .3)
-    ∙ parts-no (shp-of (turn k)) (n-of k) (plan-of (turn k) .least) (l .start) (l .cur) (c .before .before .end-of .result) (l .left) (c .before .before .before .parts-test .taken) (c .before .before .end-of .ensures .value) (c .if5 .taken))
+    ∙ parts-no (shp-of (turn k)) (n-of k) (own-of k .least) (l .start) (l .cur) (c .before .before .end-of .result) (l .left) (c .before .before .before .parts-test .taken) (c .before .before .end-of .ensures .value) (c .if6 .taken))
 
-returns-6 : tie.Need-returns-6 Inv-parts μ-parts Inv-rings μ-rings Inv-front μ-front Inv-doubles μ-doubles Inv-walk μ-walk
-returns-6 c =
+returns-7 : tie.Need-returns-7 Inv-parts μ-parts Inv-rings μ-rings Inv-front μ-front Inv-doubles μ-doubles Inv-walk μ-walk
+returns-7 c =
     let k = c .before .before .before .before .before .before .before .before .before .before in
     let l = c .before .before .before .before .rings in
     no15 (here k) (begun (c .before .before .before .before .before .before .before .before)) (lengthy (c .before .before .before .before .before .before))
     (rw (← c .before .before .before .before .before .rings-in .ensures)
     (sym (l .inv .3)
-    ∙ rings-no (shp-of (turn k)) (n-of k) (pairs-of k) (l .next) (l .from) (c .before .before .end-of2 .result) (l .rings) (c .before .before .before .rings-test .taken) (c .before .before .end-of2 .ensures .value) (sym (c .before .closed .ensures) ∙ not-true _ (c .if6 .taken))))
-
-returns-7 : tie.Need-returns-7 Inv-parts μ-parts Inv-rings μ-rings Inv-front μ-front Inv-doubles μ-doubles Inv-walk μ-walk
-returns-7 c =
-    let l = c .before .before .before .front in
-    no16-front (here (c .before .before .before .before .before .before .before .before .before .before .before .before)) (begun (c .before .before .before .before .before .before .before .before .before .before)) (lengthy (c .before .before .before .before .before .before .before .before)) (all-closed (c .before .before .before .before .before))
-    (rw (← c .before .before .before .before .front-doubles .ensures)
-    (sym (l .inv .1) ∙ finites-no _ (l .front) (l .fronts) (c .before .before .front-test .taken) (sym (c .before .is-finite .ensures) ∙ not-true _ (c .if7 .taken))))
+    ∙ rings-no (shp-of (turn k)) (n-of k) (pairs-of k) (l .next) (l .from) (c .before .before .end-of2 .result) (l .rings) (c .before .before .before .rings-test .taken) (c .before .before .end-of2 .ensures .value) (sym (c .before .closed .ensures) ∙ not-true _ (c .if7 .taken))))
 
 returns-8 : tie.Need-returns-8 Inv-parts μ-parts Inv-rings μ-rings Inv-front μ-front Inv-doubles μ-doubles Inv-walk μ-walk
 returns-8 c =
+    let l = c .before .before .before .front in
+    no16-front (here (c .before .before .before .before .before .before .before .before .before .before .before .before)) (begun (c .before .before .before .before .before .before .before .before .before .before)) (lengthy (c .before .before .before .before .before .before .before .before)) (all-closed (c .before .before .before .before .before))
+    (rw (← c .before .before .before .before .front-doubles .ensures)
+    (sym (l .inv .1) ∙ finites-no _ (l .front) (l .fronts) (c .before .before .front-test .taken) (sym (c .before .is-finite .ensures) ∙ not-true _ (c .if8 .taken))))
+
+returns-9 : tie.Need-returns-9 Inv-parts μ-parts Inv-rings μ-rings Inv-front μ-front Inv-doubles μ-doubles Inv-walk μ-walk
+returns-9 c =
     let l = c .before .before .before .doubles in
     no16 (here (c .before .before .before .before .before .before .before .before .before .before .before .before .before .before .before)) (begun (c .before .before .before .before .before .before .before .before .before .before .before .before .before)) (lengthy (c .before .before .before .before .before .before .before .before .before .before .before)) (all-closed (c .before .before .before .before .before .before .before .before)) (front-fine (c .before .before .before .before .before))
     (rw (← c .before .before .before .before .back-doubles .ensures)
-    (sym (l .inv .2) ∙ finites-no _ (l .double) (l .doubles) (c .before .before .doubles-test .taken) (sym (c .before .is-finite2 .ensures) ∙ not-true _ (c .if8 .taken))))
+    (sym (l .inv .2) ∙ finites-no _ (l .double) (l .doubles) (c .before .before .doubles-test .taken) (sym (c .before .is-finite2 .ensures) ∙ not-true _ (c .if9 .taken))))
 
 pub walk-spec : {M : Type 1} → statement M
 walk-spec =
@@ -481,6 +521,8 @@ walk-spec =
     walk-holds
     (λ c. search needs)
     head-fault-requires
+    own-plan-requires
+    sized-requires
     (λ c. search needs)
     words-at-requires
     parts-at-requires
@@ -490,7 +532,7 @@ walk-spec =
     parts-holds
     (λ c. search needs)
     end-of-requires
-    add-if5
+    add-if6
     add-start-2
     (λ c. search needs)
     parts-again
@@ -536,4 +578,5 @@ walk-spec =
     returns-5
     returns-6
     returns-7
-    returns-8)
+    returns-8
+    returns-9)

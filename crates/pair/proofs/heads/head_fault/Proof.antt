@@ -2,23 +2,22 @@
 use mathlib.Core.Path.{_≡_, sym, _∙_}
 use mathlib.Core.Bool.{true}
 use mathlib.Core.List.{List}
-use Prim.Native.Nat.{ℕ, _+_, _*_, _^_, _≤_, _<_}
+use Prim.Native.Nat.{ℕ, _+_, _≤_}
 use native.Mathlib.Omega.{arith}
 use borrow.Author.Needs.{needs}
 use lib.ListN.{length, drop, length-drop}
-use borrow.Author.Tests.{eq-eqb, ne-eqb, not-true, not-false}
-use Rattle.rules.specs.Rules.{Taken, bigAt, littleAt, P9, P10}
+use borrow.Author.Tests.{not-true, not-false}
+use Rattle.format.specs.declared.kinds.Kind.{Kind}
+use Rattle.rules.specs.Rules.{P9, P10}
 use Rattle.rules.proofs.HeadLaws.{told9, told10}
-use Rattle.rules.proofs.PlaceLaws.{big-drop, little-drop}
-use Rattle.pair.specs.Plans.{takenFrom}
 use Rattle.pair.specs.Verdicts.{headFault}
 use Rattle.pair.proofs.HeadLaws.{left, start, past, refused}
 use Rattle.pair.proofs.heads.head_fault.Statement.{statement}
 use Rattle.pair.proofs.heads.head_fault.Tie as tie
 
 -- the kind, the record's bytes and the index from its entry on; and the way back from each place past a test
-abbrev kind-of : tie.Start → Taken
-kind-of s = takenFrom (s .args .plan)
+abbrev kind-of : tie.Start → Kind
+kind-of s = s .args .plan .kind
 
 abbrev record-of : tie.Start → List ℕ
 record-of s = drop (s .args .at) (s .args .shp .now)
@@ -41,9 +40,6 @@ e2 c = e1 (c .before .before)
 abbrev e3 : tie.Else3 → tie.Start
 e3 c = e2 (c .before .before)
 
-abbrev e4 : tie.Else4 → tie.Start
-e4 c = e3 (c .before .before .before .before)
-
 -- ---- what the tests that passed tell
 
 fine9 : (c : tie.Else1) → P9 (record-of (e1 c)) (e1 c .args .k) ≡ true
@@ -52,23 +48,16 @@ fine9 c = sym (c .before .numbered .ensures) ∙ not-false _ (c .if1 .left)
 eight : (c : tie.Else1) → e1 c .args .at + 8 ≤ length (e1 c .args .shp .now)
 eight c =
     let s = e1 c in
-    omega (arith, told9 (record-of s) (s .args .k) (fine9 c), length-drop (s .args .at) (s .args .shp .now), s .pre .1)
+    omega (arith, told9 (record-of s) (s .args .k) (fine9 c), length-drop (s .args .at) (s .args .shp .now), s .pre .0)
 
 fine10 : (c : tie.Else2) → P10 (record-of (e2 c)) ≡ true
 fine10 c = sym (c .before .inside .ensures) ∙ not-false _ (c .if2 .left)
 
-room : (c : tie.Else2) → (bigAt (e2 c .args .at + 4) (e2 c .args .shp .now) < 2 ^ 31) × (e2 c .args .at + 8 + 2 * bigAt (e2 c .args .at + 4) (e2 c .args .shp .now) ≤ length (e2 c .args .shp .now)) × (e2 c .args .at + 12 ≤ length (e2 c .args .shp .now))
+room : (c : tie.Else2) → e2 c .args .at + 12 ≤ length (e2 c .args .shp .now)
 room c =
     let s = e2 c in
     let r = told10 (record-of s) (fine10 c) in
-    let w = big-drop (s .args .at) (s .args .shp .now) 4 in
-    let n = length-drop (s .args .at) (s .args .shp .now) in
-    (omega (arith, r .held), omega (arith, r .within, s .pre .1), omega (arith, r .within, r .some, s .pre .1))
-
-code-is : (c : tie.After-little) → littleAt 8 (record-of (e3 (c .before .before))) ≡ c .little .result
-code-is c =
-    let a = e3 (c .before .before) .args in
-    little-drop (a .at) (a .shp .now) 8 ∙ sym (c .little .ensures .value)
+    omega (arith, r .within, r .some, length-drop (s .args .at) (s .args .shp .now), s .pre .0)
 
 -- ---- past each test
 
@@ -87,11 +76,6 @@ at3 c =
     let s = e3 c in
     past (kind-of s) (record-of s) (index-of s) (s .args .at) (s .args .k) 2 (at2 (c .before .before)) (sym (c .before .indexed .ensures) ∙ not-false _ (c .if3 .left))
 
-at4 : (c : tie.Else4) → fault-of (e4 c) ≡ left-of 4 (e4 c)
-at4 c =
-    let s = e4 c in
-    past (kind-of s) (record-of s) (index-of s) (s .args .at) (s .args .k) 3 (at3 (c .before .before .before .before)) (eq-eqb (littleAt 8 (record-of s)) (kind-of s .kind .code) (code-is (c .before .before) ∙ c .if4 .left))
-
 returns : tie.Need-returns
 returns c =
     let s = c .before .before .before .before in
@@ -107,7 +91,7 @@ returns-2 c =
     refused (kind-of s) (record-of s) (index-of s) (s .args .at) (s .args .k) 1 (at1 d) (sym (c .before .inside .ensures) ∙ not-true _ (c .if2 .taken))
 
 indexed-requires : tie.Need-indexed-requires
-indexed-requires c κs = (eight (c .before .before), e2 c .pre .2)
+indexed-requires c κs = (eight (c .before .before), e2 c .pre .1)
 
 returns-3 : tie.Need-returns-3
 returns-3 c =
@@ -115,29 +99,20 @@ returns-3 c =
     let s = e2 d in
     refused (kind-of s) (record-of s) (index-of s) (s .args .at) (s .args .k) 2 (at2 d) (sym (c .before .indexed .ensures) ∙ not-true _ (c .if3 .taken))
 
-little-requires : tie.Need-little-requires
-little-requires c κs = omega (arith, room (c .before .before .before))
+of-kind-requires : tie.Need-of-kind-requires
+of-kind-requires c κs = room (c .before .before .before)
 
 returns-4 : tie.Need-returns-4
 returns-4 c =
-    let d = c .before .before .before .before in
+    let d = c .before .before .before in
     let s = e3 d in
-    refused (kind-of s) (record-of s) (index-of s) (s .args .at) (s .args .k) 3 (at3 d) (ne-eqb (littleAt 8 (record-of s)) (kind-of s .kind .code) (λ e. c .if4 .taken (sym (code-is (c .before .before)) ∙ e)))
-
-sized-requires : tie.Need-sized-requires
-sized-requires c κs = let r = room (c .before .before .before .before .before .before) in (e4 c .pre .0, r .1, r .0)
+    refused (kind-of s) (record-of s) (index-of s) (s .args .at) (s .args .k) 3 (at3 d) (sym (c .before .of-kind .ensures) ∙ not-true _ (c .if4 .taken))
 
 returns-5 : tie.Need-returns-5
 returns-5 c =
-    let d = c .before .before in
-    let s = e4 d in
-    refused (kind-of s) (record-of s) (index-of s) (s .args .at) (s .args .k) 4 (at4 d) (sym (c .before .sized .ensures) ∙ not-true _ (c .if5 .taken))
-
-returns-6 : tie.Need-returns-6
-returns-6 c =
-    let d = c .before .before in
-    let s = e4 d in
-    sym (past (kind-of s) (record-of s) (index-of s) (s .args .at) (s .args .k) 4 (at4 d) (sym (c .before .sized .ensures) ∙ not-false _ (c .if5 .left)))
+    let d = c .before .before .before in
+    let s = e3 d in
+    sym (past (kind-of s) (record-of s) (index-of s) (s .args .at) (s .args .k) 3 (at3 d) (sym (c .before .of-kind .ensures) ∙ not-false _ (c .if4 .left)))
 
 pub head-fault-spec : {M : Type 1} → statement M
 head-fault-spec =
@@ -149,10 +124,6 @@ head-fault-spec =
     returns-2
     indexed-requires
     returns-3
-    (λ c. search needs)
-    little-requires
-    (λ c. search needs)
+    of-kind-requires
     returns-4
-    sized-requires
-    returns-5
-    returns-6)
+    returns-5)
