@@ -113,4 +113,4 @@ contentAt k shp shx = field (2 * extentOf k shx) (2 * offsetOf k shx + 8) shp
 abbrev pub ReadsRecords : Type 0
 ReadsRecords =
     (kind : Kind) (box : Box) (ss : List Shape) (shp shx : List ℕ) → FileOf kind box ss shp shx → (k : ℕ) → 1 ≤ k → k ≤ length ss
-    → Small (getD ss (k - 1) null) → ReadsShape (ownKind kind (getD ss (k - 1) null)) (getD ss (k - 1) null) (sizeAt k shx) (contentAt k shp shx)
+    → let s = getD ss (k - 1) null in Small s → ReadsShape (ownKind kind s) s (sizeAt k shx) (contentAt k shp shx)
