@@ -23,6 +23,7 @@ use Rattle.writer.specs.declared.AddAnswer.{AddAnswer}
 use Rattle.writer.specs.declared.AddAnswer.the-variants.{Added, Size, Unknown, NotTaken, Mismatch, Tables, Long, Room}
 use Rattle.writer.specs.Adding.{Lent, lentShape, recordSize, recordOf, entryOf, heldBox, kindThen, boxThen, nextState, saidAdd, Adds}
 use Rattle.writer.specs.Boxes.{grown}
+use Rattle.writer.specs.State.{isZero}
 use Rattle.writer.specs.Judging.{naturalOf, wordsOf, Whole, isRefused, formBy, shapeBy, wordsBy, AllPassed, AllRefused, Ready, boxBy, nextBy}
 use Rattle.writer.proofs.LengthLaws.{whole-bytes}
 use Rattle.writer.proofs.ShapeLaws.{lent-kind, lent-form, shape-is, words-are}
@@ -82,16 +83,19 @@ module _ (s : State) (t : Lent) (out start entry : ℕ) (k : Kind) (w after : Wo
   flags : Flags k (formBy k)
   flags = form-flags (t .code) k (formBy k) (p .shape .of-code .kind-is) (rw (p .shape .of-code .kind-is) at (p .shape .of-code .form-is))
 
-  -- the kind and the box, by the form
-  kind-then : (form : Form) → Flags k form → cond (eqb (k .code) 0) (s .kind) (t .code) ≡ kindThen form s t
-  kind-then nothing f = rw (f .0)
-  kind-then onePoint f = rw (f .0)
-  kind-then parts f = rw (f .0)
+  is-zero : isZero (t .code) ≡ eqb (k .code) 0
+  is-zero = ap isZero code
 
-  box-then : (form : Form) → Flags k form → cond (eqb (k .code) 0) (s .bbox) (grown (boxBy k (t .box) (t .xy) (t .zs) (t .ms)) (heldBox s)) ≡ boxThen form s t
-  box-then nothing f = rw (f .0)
-  box-then onePoint f = rw (f .0, f .1, p .shape .of-code .kind-is)
-  box-then parts f = rw (f .0, f .1, p .shape .of-code .kind-is)
+  -- the kind and the box, by the form
+  kind-then : (form : Form) → Flags k form → cond (isZero (t .code)) (s .kind) (t .code) ≡ kindThen form s t
+  kind-then nothing f = rw (is-zero, f .0)
+  kind-then onePoint f = rw (is-zero, f .0)
+  kind-then parts f = rw (is-zero, f .0)
+
+  box-then : (form : Form) → Flags k form → cond (isZero (t .code)) (s .bbox) (grown (boxBy k (t .box) (t .xy) (t .zs) (t .ms)) (heldBox s)) ≡ boxThen form s t
+  box-then nothing f = rw (is-zero, f .0)
+  box-then onePoint f = rw (is-zero, f .0, f .1, p .shape .of-code .kind-is)
+  box-then parts f = rw (is-zero, f .0, f .1, p .shape .of-code .kind-is)
 
   pub next-is : nextBy s after (t .code) k (t .box) (t .xy) (t .zs) (t .ms) ≡ nextState s t
   unfolding nextState

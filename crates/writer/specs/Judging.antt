@@ -41,7 +41,7 @@ use Rattle.writer.specs.declared.judge.Judged.{Judged}
 use Rattle.writer.specs.declared.judge.Judged.the-variants as JudgedIs
 use Rattle.writer.specs.Adding.{Lent, pointShape, lentShape, wordsThen, recordSize, heldBox, kindTests, shapeTests, addingOf, saidAdd}
 use Rattle.writer.specs.Boxes.{grown, flat, pointBox}
-use Rattle.writer.specs.State.{stateFine}
+use Rattle.writer.specs.State.{isZero, stateFine}
 
 -- ---- numbers and kinds
 
@@ -212,6 +212,6 @@ nextBy s after code k b xy zs ms =
     record {
       words = after;
       number = pos (naturalOf (s .number) + 1);
-      kind = cond (eqb (k .code) 0) (s .kind) code;
-      bbox = cond (eqb (k .code) 0) (s .bbox) (grown (boxBy k b xy zs ms) (heldBox s));
+      kind = cond (isZero code) (s .kind) code;
+      bbox = cond (isZero code) (s .bbox) (grown (boxBy k b xy zs ms) (heldBox s));
     }

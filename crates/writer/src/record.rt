@@ -136,7 +136,7 @@ pub(crate) fn next_state(
     ensures { λ r. ⌜ r ≡ nextBy state after code k bbox (now (xy .entry)) (now (zs .entry)) (now (ms .entry)) ⌝ }
 {
     let number = (natural(state.number) + 1) as i32;
-    if k.code == 0 {
+    if code == 0 {
         let bounds = state.bbox;
         return State {
             words: after,

@@ -7,9 +7,9 @@ use mir.Syntax.{w32}
 use mir.Val.{SFits, toZ}
 use mir.ValLaws.{toZ-ofZ, toZ-pos}
 use borrow.Author.Needs.{needs}
-use borrow.Author.Tests.{eq-eqb, ne-eqb}
 use Rattle.writer.specs.Boxes.{grown}
 use Rattle.writer.specs.Judging.{naturalOf}
+use Rattle.writer.proofs.JudgeLaws.{zero-yes, zero-no}
 use Rattle.writer.proofs.record.next_state.Statement.{statement}
 use Rattle.writer.proofs.record.next_state.Tie as tie
 
@@ -38,21 +38,21 @@ cast-number c = record { sfits = omega (arith, number-lt c) }
 returns : tie.Need-returns
 returns c =
     let t = c .before .before in
-    let n = t .before .before in
+    let n = t .before in
     let s = start-of n in
     let number = number-is n in
     let kind = toZ-ofZ w32 _ (kind-fits s) in
-    rw (eq-eqb (s .args .k .code) 0 (t .if1 .taken)) (λ i. record { words = s .args .after; number = number i; kind = kind i; bbox = s .args .state .bbox })
+    rw (zero-yes (s .args .code) (s .fits .code .sfits) (t .if1 .taken)) (λ i. record { words = s .args .after; number = number i; kind = kind i; bbox = s .args .state .bbox })
 
 returns-2 : tie.Need-returns-2
 returns-2 c =
     let o = c .before .before in
-    let n = o .before .before .before in
+    let n = o .before .before in
     let s = start-of n in
     let number = number-is n in
     let kind = toZ-ofZ w32 _ (s .fits .code) in
     let bbox = c .grow .ensures ∙ (λ i. grown (o .own-box .ensures i) (c .before .held-box .ensures i)) in
-    rw (ne-eqb (s .args .k .code) 0 (o .before .if1 .left)) (λ i. record { words = s .args .after; number = number i; kind = kind i; bbox = bbox i })
+    rw (zero-no (s .args .code) (o .before .if1 .left)) (λ i. record { words = s .args .after; number = number i; kind = kind i; bbox = bbox i })
 
 pub next-state-spec : {M : Type 1} → statement M
 next-state-spec =
