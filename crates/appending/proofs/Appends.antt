@@ -20,7 +20,7 @@ use Rattle.writer.specs.Boxes.{settled}
 use Rattle.writer.specs.Finishing.{shpHeader, shxHeader}
 use Rattle.writer.proofs.Accepted.{Accepted, accepted, shape-fits, kind-named, kind-stays, own-next, next-room, next-fine}
 use Rattle.writer.proofs.NextLaws.{words-next, number-next, shp-next, shx-next}
-use Rattle.appending.specs.OneMore.{KindBehind, Behind, kindOf, records, entries, Beginning, Appending}
+use Rattle.appending.specs.OneMore.{KindBehind, Behind, stateKind, records, entries, Beginning, Appending}
 
 pub fresh-behind : Beginning
 fresh-behind k = record { words = ap pos (sym (end-nil 50)); number = refl; kind = refl; held = tt }
@@ -54,7 +54,7 @@ module _ (k : Kind) (ss : List Shape) (s : State) (t : Lent) (b : Behind k ss s)
 
   -- the kind that the next state names: theirs, where there are any, and the record's own is a shape's in a file of it
   abbrev file : Kind
-  file = kindOf (nextState s t)
+  file = stateKind (nextState s t)
 
   code-is : natAbs (nextState s t .kind) ≡ file .code
   code-is = ap natAbs (KindLaws.code-is (nextState s t .kind) file (kind-named s t a))

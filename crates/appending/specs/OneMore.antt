@@ -32,8 +32,8 @@ pub record Behind (k : Kind) (ss : List Shape) (s : State) : Type 0 where
   pub held : HeldFrom 1 50 ss
 
 -- the kind that a state names
-abbrev pub kindOf : State → Kind
-kindOf s = kindOr (kindAt (s .kind))
+abbrev pub stateKind : State → Kind
+stateKind s = kindOr (kindAt (s .kind))
 
 -- the records of these shapes, and their entries
 abbrev pub records : Kind → List Shape → List ℕ
@@ -46,12 +46,12 @@ entries ss = flatten (map entryBytes (entriesFrom 50 ss))
 -- state. The records with the new one behind them are those of the longer list, so are the entries, and with the finished headers in front they
 -- are its pair of files.
 pub record OneMore (k : Kind) (ss : List Shape) (s : State) (t : Lent) : Type 0 where
-  pub among : Among (kindOf (nextState s t)) (lentShape t)
-  pub behind : Behind (kindOf (nextState s t)) (ss ++ lentShape t ∷ []) (nextState s t)
+  pub among : Among (stateKind (nextState s t)) (lentShape t)
+  pub behind : Behind (stateKind (nextState s t)) (ss ++ lentShape t ∷ []) (nextState s t)
   pub fine : stateFine (nextState s t) ≡ true
-  pub appended : records (kindOf (nextState s t)) (ss ++ lentShape t ∷ []) ≡ records k ss ++ recordOf s t
+  pub appended : records (stateKind (nextState s t)) (ss ++ lentShape t ∷ []) ≡ records k ss ++ recordOf s t
   pub indexed : entries (ss ++ lentShape t ∷ []) ≡ entries ss ++ entryOf s t
-  pub pair : IsPair (kindOf (nextState s t)) (boxBits (settled (nextState s t .bbox))) (ss ++ lentShape t ∷ [])
+  pub pair : IsPair (stateKind (nextState s t)) (boxBits (settled (nextState s t .bbox))) (ss ++ lentShape t ∷ [])
       (shpHeader (nextState s t) ++ (records k ss ++ recordOf s t))
       (shxHeader (nextState s t) ++ (entries ss ++ entryOf s t))
 

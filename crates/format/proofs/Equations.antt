@@ -13,7 +13,7 @@ use mir.Val.{toZ, ofZ}
 use Rattle.format.specs.declared.kinds.Kind.{Kind}
 use Rattle.format.specs.Bytes.{le, be, leBytes, beBytes, field}
 use Rattle.format.specs.Encoding.{Box, doubles, pointBytes, boxBytes, startsFrom, valueBytes, measureBytes, partsBytes, shapeBytes, content, shapeWords, twoBig, recordBytes, recordsFrom, entryBytes, entriesFrom, headerFields, headerBytes, endFrom, shpBytes, shxBytes}
-use Rattle.format.specs.Lengths.{Form, nothing, onePoint, given, fixedWords, pointWords, contentWords}
+use Rattle.format.specs.Lengths.{Form, onePoint, given, fixedWords, pointWords, contentWords}
 use Rattle.format.specs.Lengths
 use Rattle.format.specs.Numbers.{big, little, double, beI32, leI32, leF64, i32Be, i32Le, f64Le, f64sLe}
 use Rattle.format.specs.Shapes.{Point, BoxXY, Parts, Shape, null, point, parted, there, partsIn, pointsIn, ownKind}
@@ -176,11 +176,6 @@ shape-parted s = refl
 pub content-bytes : (k : Kind) (s : Shape) → content k s ≡ little (k .code) ++ shapeBytes s
 unfolding content
 content-bytes k s = refl
-
--- whatever the flags
-pub words-null : (z m : Bool) → shapeWords null ≡ contentWords nothing z m 0 0
-unfolding shapeWords contentWords fixedWords pointWords
-words-null z m = refl
 
 pub words-point : (xy : Point) (z m : Option ℕ) → shapeWords (point xy z m) ≡ contentWords onePoint (there z) (there m) 0 1
 unfolding shapeWords

@@ -13,6 +13,7 @@ use Rattle.format.specs.Kinds.{kindAt}
 use Rattle.format.specs.Said.{gives}
 use Rattle.format.specs.Shapes.{Shape}
 use Rattle.format.proofs.Equations.{shp-is, shx-is}
+use Rattle.format.proofs.KindLaws.{code-held}
 use Rattle.format.proofs.Records.{entriesBytes, length-entries}
 use Rattle.format.proofs.Runs.{numbers}
 use Rattle.format.proofs.Places.{Stands, in-front}
@@ -25,14 +26,14 @@ use Rattle.rules.proofs.VerdictLaws.{finish-gives, verdict-walk}
 use Rattle.rules.proofs.WalkLaws.{walk-end}
 use Rattle.meaning.proofs.EachRecord.{length-records}
 use Rattle.meaning.proofs.Skip.{plus, skips}
-use Rattle.meaning.proofs.Table.{Known, known}
+use Rattle.meaning.proofs.Table.{Known}
 
 module _ (k : Kind) (box : Box) (ss : List Shape) (shp shx : List ℕ) (f : FileOf k box ss shp shx) where
   abbrev pub taken : Taken
   taken = record { kind = k; form = f .kind .form }
 
   pub kind-known : Known taken
-  kind-known = known _ taken (f .kind .in-table) (f .kind .taken)
+  kind-known = record { row = f .kind .in-table; form = f .kind .taken }
 
   abbrev shp-front : List ℕ
   shp-front = headerBytes (endFrom 50 ss) 1000 (k .code) box
@@ -69,7 +70,7 @@ module _ (k : Kind) (box : Box) (ss : List Shape) (shp shx : List ℕ) (f : File
 
   -- what the headers say
   pub code-same : littleAt 32 shp ≡ k .code
-  code-same = code-read (endFrom 50 ss) (k .code) box shp shp-header (omega (arith, kind-known .small))
+  code-same = code-read (endFrom 50 ss) (k .code) box shp shp-header (omega (arith, code-held (pos (k .code)) k (f .kind .in-table)))
 
   pub box-same : numbers 8 8 36 shp ≡ boxDoubles box
   box-same = box-read (endFrom 50 ss) (k .code) box shp shp-header (f .box-finite)

@@ -27,11 +27,11 @@ module _ (shp shx : List ℕ) (b : AllBytes shp) (bx : AllBytes shx) (t : Taken)
   code-found : t .kind .code ≡ littleAt 32 shp
   code-found = found-code (littleAt 32 shp) (t .kind) (h .kind .row)
 
-  pub taken-kind : TakenKind (t .kind)
-  taken-kind = record { form = t .form; in-table = ap (λ (q : ℕ). kindAt (pos q)) code-found ∙ h .kind .row; taken = h .kind .form }
-
   kind-known : Known t
   kind-known = known _ t (h .kind .row) (h .kind .form)
+
+  pub taken-kind : TakenKind (t .kind)
+  taken-kind = record { form = t .form; in-table = kind-known .row; taken = kind-known .form }
 
   abbrev pub box : Box
   box = boxOf (numbers 8 8 36 shp)

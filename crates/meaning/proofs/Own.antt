@@ -2,20 +2,18 @@
 use mathlib.Core.Path.{_≡_, refl, ap, _∙_}
 use mathlib.Core.Bool.{Bool, true, false, cond}
 use mathlib.Core.List.{List}
-use mathlib.Core.Option.{some}
 use Prim.Native.Nat.{ℕ}
 use native.Mathlib.Omega.{arith}
 use lib.Dec.{eqb}
-use borrow.Author.Tests.{eq-eqb}
+use lib.IntN.{pos}
 use Rattle.format.specs.declared.kinds.Kind.{Kind}
-use Rattle.format.specs.Lengths.{Form, nothing, onePoint, formOf}
+use Rattle.format.specs.Lengths.{Form, nothing, onePoint}
 use Rattle.format.specs.Lengths
-use Rattle.format.specs.Shapes.{Shape, null, point, parted, ownKind, Among}
+use Rattle.format.specs.Shapes.{Shape, null, point, parted, OfKind, ownKind, Among}
 use Rattle.format.specs.WellFormed.{WellFormed}
-use Rattle.format.proofs.LengthLaws.{Flags, null-row, null-form}
+use Rattle.format.proofs.LengthLaws.{form-flags, null-row, null-form, own-kind}
 use Rattle.rules.specs.Rules.{Taken, nullTaken, littleAt, ownTaken}
-use Rattle.meaning.proofs.Decode.{pointFrom, shapeAt}
-use Rattle.meaning.proofs.Table.{Known, known}
+use Rattle.meaning.proofs.Table.{Known}
 
 -- ---- by the shape
 
@@ -38,10 +36,10 @@ own-well k null v = v
 own-well k (point xy z m) v = v
 own-well k (parted s) v = v
 
--- ---- what a header's kind knows, the own kind knows
+-- ---- where the header's is a taken kind of the table, the own kind is one
 
 null-known : Known nullTaken
-null-known = known 0 nullTaken null-row null-form
+null-known = record { row = null-row; form = null-form }
 
 pub field-known : (t : Taken) (l : List ℕ) → Known t → Known (ownTaken t l)
 field-known t l k = go (eqb (littleAt 8 l) 0)
@@ -55,37 +53,21 @@ shape-known t null k = null-known
 shape-known t (point xy z m) k = k
 shape-known t (parted s) k = k
 
--- ---- the two agree: of the shape that is read by the field
+-- ---- the field's kind and the shape's are one: of the shape that is read by the field
 
-not-null : (k : Kind) (f : Form) (l : List ℕ) → Flags k f → (eqb (k .code) 0 ≡ true → ⊥) → ownKind k (shapeAt k f l) ≡ k
-unfolding shapeAt pointFrom
-not-null k nothing l g n = absurd (n (g .0))
-not-null k onePoint l g n = refl
-not-null k Lengths.parts l g n = refl
+pub kind-read : (t : Taken) (l : List ℕ) (s : Shape) → Known (ownTaken t l) → OfKind (ownTaken t l .kind) s → ownKind (t .kind) s ≡ ownTaken t l .kind
+kind-read t l s k o = own-kind (pos (ownTaken t l .kind .code)) (ownTaken t l .kind) (t .kind) s (k .row) o (go (eqb (littleAt 8 l) 0))
+  where
+    go : (b : Bool) → eqb ((cond b nullTaken t) .kind .code) 0 ≡ false → t .kind ≡ (cond b nullTaken t) .kind
+    go true e = absurd (let z : _≡_ {A = ℕ} 0 1 = cc in omega arith)
+    go false e = refl
 
-by-field : (t : Taken) (l : List ℕ) (b : Bool) → Known t → eqb (littleAt 8 l) 0 ≡ b → littleAt 8 l ≡ (cond b nullTaken t) .kind .code
-    → ownKind (t .kind) (shapeAt ((cond b nullTaken t) .kind) ((cond b nullTaken t) .form) l) ≡ (cond b nullTaken t) .kind
-unfolding shapeAt
-by-field t l true k q e = refl
-by-field t l false k q e = not-null (t .kind) (t .form) l (k .flags) (λ z. let y : _≡_ {A = ℕ} 0 1 = cc (ap (λ (c : ℕ). eqb c 0) e) in omega arith)
+-- and of a shape whose code the field has
+module _ (t : Taken) (l : List ℕ) (k : Known t) where
+  by-code : (c : ℕ) (b : Bool) → littleAt 8 l ≡ c → eqb c 0 ≡ b → ownTaken t l ≡ cond b nullTaken t
+  by-code c b e f = ap (λ (q : Bool). cond q nullTaken t) (ap (λ (q : ℕ). eqb q 0) e ∙ f)
 
-pub kind-read : (t : Taken) (l : List ℕ) → Known t → littleAt 8 l ≡ ownTaken t l .kind .code
-    → ownKind (t .kind) (shapeAt (ownTaken t l .kind) (ownTaken t l .form) l) ≡ ownTaken t l .kind
-kind-read t l k e = by-field t l (eqb (littleAt 8 l) 0) k refl e
-
--- ---- and of a shape whose code the field has
-
--- a kind with a shape that is not Null has another code than Null's
-other-code : (k : Kind) (f g : Form) → Flags k f → formOf k ≡ some f → formOf k ≡ some g → (g ≡ nothing → ⊥) → eqb (k .code) 0 ≡ false
-other-code k nothing g a p q n = absurd (n (cc))
-other-code k onePoint g a p q n = a .0
-other-code k Lengths.parts g a p q n = a .0
-
-pub own-is : (t : Taken) (s : Shape) (l : List ℕ) → Known t → Among (t .kind) s → littleAt 8 l ≡ ownKind (t .kind) s .code → ownTaken t l ≡ shapeTaken t s
-own-is t null l k o e = ap (λ (b : Bool). cond b nullTaken t) (eq-eqb _ _ e)
-own-is t (point xy z m) l k o e =
-    ap (λ (b : Bool). cond b nullTaken t)
-    (ap (λ (c : ℕ). eqb c 0) e ∙ other-code (t .kind) (t .form) onePoint (k .flags) (k .form) (o .form) (λ p. let y : _≡_ {A = ℕ} 0 1 = cc in omega arith))
-own-is t (parted s) l k o e =
-    ap (λ (b : Bool). cond b nullTaken t)
-    (ap (λ (c : ℕ). eqb c 0) e ∙ other-code (t .kind) (t .form) Lengths.parts (k .flags) (k .form) (o .form) (λ p. let y : _≡_ {A = ℕ} 0 1 = cc in omega arith))
+  pub own-is : (s : Shape) → Among (t .kind) s → littleAt 8 l ≡ ownKind (t .kind) s .code → ownTaken t l ≡ shapeTaken t s
+  own-is null o e = by-code 0 true e refl
+  own-is (point xy z m) o e = by-code (t .kind .code) false e (form-flags (pos (t .kind .code)) (t .kind) onePoint (k .row) (o .form) .0)
+  own-is (parted s) o e = by-code (t .kind .code) false e (form-flags (pos (t .kind .code)) (t .kind) Lengths.parts (k .row) (o .form) .0)

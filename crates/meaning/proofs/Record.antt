@@ -3,12 +3,14 @@ use mathlib.Core.Path.{_≡_, sym, ap, _∙_}
 use mathlib.Core.List.{List}
 use Prim.Native.Nat.{ℕ, _+_, _*_, _≤_}
 use native.Mathlib.Omega.{arith}
+use lib.IntN.{pos}
 use lib.ListN.{length}
 use Rattle.format.specs.declared.kinds.Kind.{Kind}
 use Rattle.format.specs.Encoding.{shapeWords, twoBig, recordBytes, Held}
 use Rattle.format.specs.Shapes.{Shape, OfKind, partsIn, pointsIn}
 use Rattle.format.specs.WellFormed.{WellFormed}
 use Rattle.format.proofs.ByteLaws.{AllBytes}
+use Rattle.format.proofs.KindLaws.{code-held, rings-parts}
 use Rattle.format.proofs.NumberLaws.{length-two}
 use Rattle.format.proofs.Laid.{length-shape, length-record}
 use Rattle.format.proofs.Places.{Stands, stands-within}
@@ -71,7 +73,7 @@ module _ (t : Taken) (known : Known t) (l x : List ℕ) (w n : ℕ) where
     words-read = second-read n (shapeWords s) 0 l at0 (omega (arith, g .words-held))
 
     pub read-back : Back t l s
-    read-back = back-as (t .kind) l (known .rings) s (g .of-kind) (g .well) (g .parts-held) (g .points-held) words-read (in-shape (t .kind) n s l 0 st) (t .form) (known .form)
+    read-back = back-as (t .kind) l (rings-parts (pos (t .kind .code)) (t .kind) (known .row)) s (g .of-kind) (g .well) (g .parts-held) (g .points-held) words-read (in-shape (t .kind) n s l 0 st) (t .form) (known .form)
 
     within : 8 + 2 * shapeWords s ≤ length l
     within =
@@ -98,7 +100,7 @@ module _ (t : Taken) (known : Known t) (l x : List ℕ) (w n : ℕ) where
           offset-held = rw offset-read (g .word-held);
           offset = ap (λ (i : ℕ). 2 * i) offset-read;
           extent = second-read w (shapeWords s) 0 x sx (omega (arith, g .words-held)) ∙ sym words-read;
-          code = code-read (t .kind) n s l 0 st (omega (arith, known .small));
+          code = code-read (t .kind) n s l 0 st (omega (arith, code-held (pos (t .kind .code)) (t .kind) (known .row)));
           parts-held = rw (read-back .parts) (g .parts-held);
           points-held = rw (read-back .points) (g .points-held);
           met = read-back .met (omega (arith, words-read, within));

@@ -80,7 +80,7 @@ module _ (t : Taken) (known : Known t) where
     x = indexed own of s n w g r y
 
     own-read : ownTaken t l ≡ own
-    own-read = own-is t s l known (g .of-kind) (unfaulted own of s n w g r y .code)
+    own-read = own-is t l known s (g .of-kind) (unfaulted own of s n w g r y .code)
 
     -- the shape that is read there is the one
     same-read : shapeAt (ownTaken t l .kind) (ownTaken t l .form) l ≡ s

@@ -54,7 +54,7 @@ module _ (t : Taken) (known : Known t) where
       let g = encodable own of l x w n b bx f in
       let words : wordsOf l ≡ shapeWords s = shaped own of l x w n b bx f .words in
       let m : Split t (drop (8 + 2 * shapeWords s) l) (drop 8 x) (w + (4 + shapeWords s)) (n + 1) = rw words at more in
-      let kind : ownKind (t .kind) s ≡ own .kind = kind-read t l known (f .code) in
+      let kind : ownKind (t .kind) s ≡ own .kind = kind-read t l s of (g .of-kind) in
       let lr : length (recordBytes (own .kind) n s) ≡ 8 + 2 * shapeWords s = length-record (own .kind) n s (g .of-kind) in
       let lt : length (twoBig w (shapeWords s)) ≡ 8 = length-two w (shapeWords s) in
       let number : n + suc (length (m .shapes)) ≡ n + 1 + length (m .shapes) = omega arith in

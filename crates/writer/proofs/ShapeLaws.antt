@@ -14,7 +14,8 @@ use Rattle.format.specs.Kinds.{kindOr}
 use Rattle.format.specs.Lengths.{nothing, onePoint, parts, formula, contentWords, formulaWords}
 use Rattle.format.specs.Shapes.{null, parted, there}
 use Rattle.format.proofs.Equations as Equations
-use Rattle.format.proofs.Equations.{words-null, words-point}
+use Rattle.format.proofs.Equations.{words-point}
+use Rattle.format.proofs.Laid.{nothing-words, null-words}
 use Rattle.format.proofs.LengthLaws.{null-kind}
 use Rattle.header.specs.declared.bbox.BBoxZ.{BBoxZ}
 use Rattle.layouts.specs.Answers.{countsHeld}
@@ -97,7 +98,7 @@ module _ (k : Kind) (b : BBoxZ) (counts : List ℕ) (xy zs ms : List Float) (e :
     where
       go : (p z : Bool) → k .parts ≡ p → eqb (k .code) 0 ≡ z → Agreed (k .z) (k .m) (pointsBy k counts) xy zs ms → shapeWords (shapeBy k b counts xy zs ms) ≡ wordsBy k counts
       go true z q r a = rw q (parts-words (k .z) (k .m) b counts xy zs ms (rw q at (a .xy-has)))
-      go false true q r a = rw (q, r, no-parts k counts xy zs ms e q) (words-null (k .z) (k .m))
+      go false true q r a = rw (q, r, no-parts k counts xy zs ms e q) (null-words ∙ sym (nothing-words (k .z) (k .m)))
       go false false q r a = rw (q, r, no-parts k counts xy zs ms e q) (point-words k xy zs ms (rw (q, r) at (a .xy-has)) (rw (q, r) at (a .zs-has)) (rw (q, r) at (a .ms-has)))
 
   pub counts-held : ltb (length counts) (2 ^ 31) && ltb (pointsBy k counts) (2 ^ 31) ≡ countsHeld counts
