@@ -26,8 +26,8 @@
  *    7  long: a count over 2,147,483,647, or a file over that many words
  *    8  fault: the pair checker's no                first: the rule (11 for P11), second: the record's number, 0 for the headers;
  *       docs/RULES.md says each rule in plain words and what usually breaks it
- *    9  not taken: a kind that is not read or written   first: the kind's code
- *   10  tables: lent tables disagree in length
+ *    9  not taken: a kind that is not read or written   first: the kind's code; 0, Null, where it is wanted or would be the first record
+ *   10  tables: lent tables disagree in length, or a Null record comes with one that is not empty
  * Values that a refusal does not have are 0. A code that is below 0 stands as its 32 bits: (int32_t)first.
  */
 #ifndef MBENARUUL_H
@@ -92,6 +92,9 @@ mbenaruul_pair_checked mbenaruul_check_pair(const uint8_t *shp, size_t shp_n, co
  *     to that start plus the bytes of the first, and so on.
  *   - the .shx: a header of 100 bytes, then the 8 bytes of each record's entry, behind those of the last one.
  *   - when all records are added, the two headers that mbenaruul_finish gives go in front.
+ * The first record gives the file its kind: 1, 3 or 5, 21, 23 or 25 with m, 11, 13 or 15 with z and m; 0 is refused with 9. Each further record has
+ * that kind, or is a Null record, which is an empty place among them: code 0 and four empty tables. A Null record takes 12 bytes, and kind and box
+ * of the state stay as they were; the box that comes with it plays no part.
  * Of tables only the lengths are judged: a ring that is open, NaN, a part of one point, a box that is not the true one are written as given. */
 typedef struct { int32_t words, number, kind; mbenaruul_bbox bbox; } mbenaruul_state;
 mbenaruul_state mbenaruul_new(void);

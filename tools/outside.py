@@ -1,6 +1,6 @@
 #!/usr/bin/env python3
-"""Has GDAL, shapelib and pyshp write pairs of every kind that each can write, into a folder; or with --large, a plan of 60,000 runs each by GDAL
-and pyshp, and GDAL's again with entries 12 and 31 of its index exchanged.
+"""Has GDAL, shapelib and pyshp write pairs of every kind that each can write, and of some kinds with empty places, into a folder; or with --large,
+a plan of 60,000 runs each by GDAL and pyshp, and GDAL's again with entries 12 and 31 of its index exchanged.
 
     tools/outside.py [--large] FOLDER
 
@@ -18,6 +18,8 @@ LINE = [[0.0, 0.0], [1.0, 1.0], [2.0, 0.0]]
 SECOND = [[5.0, 5.0], [6.0, 6.0]]
 RING = [[0.0, 0.0], [0.0, 1.0], [1.0, 1.0], [1.0, 0.0], [0.0, 0.0]]
 HOLE = [[0.2, 0.2], [0.4, 0.2], [0.4, 0.4], [0.2, 0.4], [0.2, 0.2]]
+# Where a plan of three records has empty places, which are written as Null records.
+EMPTY = {"first": (1, 0, 0), "middle": (0, 1, 0), "last": (0, 0, 1), "all": (1, 1, 1)}
 
 
 def run(*words):
@@ -40,13 +42,25 @@ def gdal(folder):
         "polygonz": "POLYGON Z ((0 0 1,0 1 1,1 1 1,1 0 1,0 0 1))",
         "polygonzm": "POLYGON ZM ((0 0 1 2,0 1 1 2,1 1 1 2,1 0 1 2,0 0 1 2))",
     }
-    for name, text in wkt.items():
+
+    def layer(name, kind, texts):
         source = os.path.join(folder, name + ".csv")
         with open(source, "w") as f:
-            f.write('WKT,name\n"%s",a\n"%s",b\n' % (text, text))
-        run("ogr2ogr", "-f", "ESRI Shapefile", os.path.join(folder, "gdal_%s.shp" % name), source, "-oo", "KEEP_GEOM_COLUMNS=NO", "-lco", "SHPT=" + name.upper().replace("POLYLINE", "ARC"))
+            f.write("WKT,name\n" + "".join('"%s",run %d\n' % (text, k) for k, text in enumerate(texts)))
+        run("ogr2ogr", "-f", "ESRI Shapefile", os.path.join(folder, "gdal_%s.shp" % name), source, "-oo", "KEEP_GEOM_COLUMNS=NO", "-lco", "SHPT=" + kind.upper().replace("POLYLINE", "ARC"))
         os.remove(source)
-    # a record whose geometry is missing, and no record at all
+
+    for name, text in wkt.items():
+        layer(name, name, [text, text])
+    # a feature without a geometry in each of the places
+    for name in ("point", "polyline", "polygon", "polygonz"):
+        for place, empty in EMPTY.items():
+            layer("%s_null_%s" % (name, place), name, ["" if e else wkt[name] for e in empty])
+    # a plan of three runs, the second of which is taken down in the file
+    layer("taken_down", "polyline", [wkt["polyline"]] * 3)
+    run("ogrinfo", os.path.join(folder, "gdal_taken_down.shp"), "-dialect", "SQLite",
+        "-sql", "UPDATE gdal_taken_down SET GEOMETRY = NULL WHERE name = 'run 1'")
+    # a feature without a geometry in another format, and no feature at all
     source = os.path.join(folder, "some.geojson")
     shapes = [{"type": "Feature", "properties": {"n": 1}, "geometry": {"type": "LineString", "coordinates": LINE}},
               {"type": "Feature", "properties": {"n": 2}, "geometry": None}]
@@ -65,30 +79,39 @@ def shapelib(folder):
     lib.SHPWriteObject.argtypes = [ctypes.c_void_p, ctypes.c_int, ctypes.c_void_p]
     lib.SHPDestroyObject.argtypes = lib.SHPClose.argtypes = [ctypes.c_void_p]
     doubles = lambda values: (ctypes.c_double * len(values))(*values)
-    for name, kind in (("point", 1), ("pointm", 21), ("pointz", 11), ("arc", 3), ("arcm", 23), ("arcz", 13),
-                       ("polygon", 5), ("polygonm", 25), ("polygonz", 15), ("null", 0), ("empty", 3)):
-        parts = [[[1.0, 2.0]]] if kind in (1, 11, 21) else [RING, HOLE] if kind in (5, 15, 25) else [LINE, SECOND]
-        xy = [c for part in parts for c in part]
-        starts = [sum(len(part) for part in parts[:i]) for i in range(len(parts))]
+
+    def pair(name, kind, empty):
         handle = lib.SHPCreate(os.path.join(folder, "shapelib_" + name).encode(), kind)
-        for _ in range(0 if name == "empty" else 2):
+        for e in empty:
+            parts = [] if e else [[[1.0, 2.0]]] if kind in (1, 11, 21) else [RING, HOLE] if kind in (5, 15, 25) else [LINE, SECOND]
+            xy = [c for part in parts for c in part]
+            starts = [sum(len(part) for part in parts[:i]) for i in range(len(parts))]
             shape = lib.SHPCreateObject(
-                kind, -1, len(parts), (ctypes.c_int * len(starts))(*starts), None, len(xy),
+                0 if e else kind, -1, len(parts), (ctypes.c_int * len(starts))(*starts), None, len(xy),
                 doubles([c[0] for c in xy]), doubles([c[1] for c in xy]), doubles([3.0] * len(xy)), doubles([4.0] * len(xy)))
             lib.SHPWriteObject(handle, -1, shape)
             lib.SHPDestroyObject(shape)
         lib.SHPClose(handle)
 
+    kinds = {"point": 1, "pointm": 21, "pointz": 11, "arc": 3, "arcm": 23, "arcz": 13, "polygon": 5, "polygonm": 25, "polygonz": 15}
+    for name, kind in kinds.items():
+        pair(name, kind, (0, 0))
+    pair("null", 0, (1, 1))
+    pair("empty", 3, ())
+    for name in ("point", "arc", "polygon", "polygonz"):
+        for place, empty in EMPTY.items():
+            pair("%s_null_%s" % (name, place), kinds[name], empty)
+
 
 def pyshp(folder):
     import shapefile
     lines = {"line": [LINE, SECOND], "poly": [RING, HOLE]}
-    for name, kind in (("point", 1), ("pointm", 21), ("pointz", 11), ("polyline", 3), ("polylinem", 23), ("polylinez", 13),
-                       ("polygon", 5), ("polygonm", 25), ("polygonz", 15), ("null", 0), ("empty", 3)):
+
+    def pair(name, kind, empty):
         with shapefile.Writer(os.path.join(folder, "pyshp_" + name), shapeType=kind) as w:
             w.field("name", "C")
-            for k in range(0 if name == "empty" else 2):
-                if kind == 0:
+            for k, e in enumerate(empty):
+                if e:
                     w.null()
                 elif kind == 1:
                     w.point(1.0, 2.0)
@@ -102,6 +125,15 @@ def pyshp(folder):
                     parts = [[xy + [1.0] * extra for xy in part] for part in parts]
                     {3: w.line, 23: w.linem, 13: w.linez, 5: w.poly, 25: w.polym, 15: w.polyz}[kind](parts)
                 w.record("run %d" % k)
+
+    kinds = {"point": 1, "pointm": 21, "pointz": 11, "polyline": 3, "polylinem": 23, "polylinez": 13, "polygon": 5, "polygonm": 25, "polygonz": 15}
+    for name, kind in kinds.items():
+        pair(name, kind, (0, 0))
+    pair("null", 0, (1, 1))
+    pair("empty", 3, ())
+    for name in ("point", "polyline", "polygon", "polygonz"):
+        for place, empty in EMPTY.items():
+            pair("%s_null_%s" % (name, place), kinds[name], empty)
 
 
 def large_gdal(folder):

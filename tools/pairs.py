@@ -9,6 +9,7 @@ import shutil
 import struct
 import sys
 
+KINDS = (0, 1, 21, 11, 3, 23, 13, 5, 25, 15)
 LINE, RING = {3, 13, 23}, {5, 15, 25}
 HAS_Z, HAS_M = {11, 13, 15}, {11, 13, 15, 21, 23, 25}
 NAN, INF = float("nan"), float("inf")
@@ -79,10 +80,13 @@ SQUARE = [(0.0, 0.0), (0.0, 1.0), (1.0, 1.0), (1.0, 0.0), (0.0, 0.0)]
 TRIANGLE = [(5.0, 5.0), (5.0, 6.0), (6.0, 5.0), (5.0, 5.0)]
 
 
+NULL = little(0)
+
+
 def good(kind):
     """Two records of a kind, with the counts of both together."""
     if kind == 0:
-        return [little(0), little(0)], 0, 0
+        return [NULL, NULL], 0, 0
     if kind in (1, 11, 21):
         return [point(kind), point(kind, x=-0.0)], 0, 2
     if kind in LINE:
@@ -104,10 +108,20 @@ def cases():
     yield "exchanged_same_length", pair(3, same, entries=lambda i: [i[0], i[2], i[1]]), "no rule=P11 record=2", \
         "record 2: the index says byte 276, the record stands at byte 188"
     # one good pair for each kind, and an empty one
-    for kind in (0, 1, 21, 11, 3, 23, 13, 5, 25, 15):
+    for kind in KINDS:
         contents, parts, points = good(kind)
         yield "good_%d" % kind, pair(kind, contents), "yes records=2 parts=%d points=%d" % (parts, points)
         yield "empty_%d" % kind, pair(kind, []), "yes records=0 parts=0 points=0"
+    # empty places: a shelf run that was taken down; Null records first, in the middle, last and alone in a file of each kind; and several
+    yield "taken_down", pair(3, [parted(3, [SEGMENT]), NULL]), "yes records=2 parts=1 points=2"
+    for kind in KINDS:
+        (one, other), parts, points = good(kind)
+        for place, contents in (("first", [NULL, one, other]), ("middle", [one, NULL, other]), ("last", [one, other, NULL])):
+            if kind != 0:
+                yield "null_%s_%d" % (place, kind), pair(kind, contents), "yes records=3 parts=%d points=%d" % (parts, points)
+        yield "null_alone_%d" % kind, pair(kind, [NULL]), "yes records=1 parts=0 points=0"
+    several = [NULL, NULL, parted(15, [SQUARE]), NULL, parted(15, [SQUARE, TRIANGLE], with_m=False), NULL, NULL]
+    yield "null_several", pair(15, several), "yes records=7 parts=3 points=14"
     for kind in (23, 13, 25, 15):
         run = [SEGMENT] if kind in LINE else [SQUARE]
         n = len(run[0])
@@ -165,6 +179,8 @@ def cases():
         "record 2: 6 bytes left at byte 188; a record's header has 8"
     yield "P10_short", pair(3, [little(3)[:2]]), "no rule=P10 record=1", \
         "record 1: its length is 1 word; it should be at least 2"
+    yield "P10_null_short", pair(3, [parted(3, [SEGMENT]), NULL[:2]]), "no rule=P10 record=2", \
+        "record 2: its length is 1 word; it should be at least 2"
     yield "P10_past", pair(3, two, words=[40, 49]), "no rule=P10 record=2", \
         "record 2: its length is 49 words, which is 98 bytes; the file has 96 bytes left"
     yield "P10_negative", pair(3, [parted(3, [SEGMENT])], words=[-40]), "no rule=P10 record=1", \
@@ -175,12 +191,35 @@ def cases():
         "record 2: the index says byte 190, the record stands at byte 188"
     yield "P11_length", pair(3, two, entries=lambda i: [(i[0][0], i[0][1] + 1), i[1]]), "no rule=P11 record=1", \
         "record 1: the index says 41 words, the record's header says 40"
+    with_null = [parted(3, [SEGMENT]), NULL, parted(3, [BEND])]
+    yield "P11_null_exchanged", pair(3, with_null, entries=exchange), "no rule=P11 record=1", \
+        "record 1: the index says byte 188, the record stands at byte 100"
+    yield "P11_nulls_exchanged", pair(3, [NULL, NULL, parted(3, [SEGMENT])], entries=exchange), "no rule=P11 record=1", \
+        "record 1: the index says byte 112, the record stands at byte 100"
+    yield "P11_null_missing", pair(3, with_null, entries=lambda i: [i[0], i[2]]), "no rule=P11 record=2", \
+        "record 2: the index says byte 200, the record stands at byte 188"
+    yield "P11_null_length", pair(3, with_null, entries=lambda i: [i[0], (i[1][0], 0), i[2]]), "no rule=P11 record=2", \
+        "record 2: the index says 0 words, the record's header says 2"
     yield "P12_other", pair(3, [parted(3, [SEGMENT]), parted(5, [SQUARE])]), "no rule=P12 record=2", \
         "record 2: its kind is 5, a Polygon; the header's is 3, a Polyline"
-    yield "P12_null", pair(3, [parted(3, [SEGMENT]), little(0)]), "no rule=P12 record=2", \
-        "record 2: its kind is 0, a Null; the header's is 3, a Polyline"
+    yield "P12_behind_null", pair(3, [parted(3, [SEGMENT]), NULL, parted(5, [SQUARE])]), "no rule=P12 record=3", \
+        "record 3: its kind is 5, a Polygon; the header's is 3, a Polyline"
+    yield "P12_in_null", pair(0, [NULL, parted(3, [SEGMENT])]), "no rule=P12 record=2", \
+        "record 2: its kind is 3, a Polyline; the header's is 0, a Null"
+    yield "P12_low_byte_0", pair(3, [little(256) + parted(3, [SEGMENT])[4:]]), "no rule=P12 record=1", \
+        "record 1: its kind is 256, which is no kind; the header's is 3, a Polyline"
     yield "P13_null_long", pair(0, [little(0, 0)]), "no rule=P13 record=1", \
         "record 1: 4 words; a Null has 2"
+    yield "P13_null_of_3", pair(3, [parted(3, [SEGMENT]), NULL + b"\0\0"]), "no rule=P13 record=2", \
+        "record 2: 3 words; a Null has 2"
+    yield "P13_null_as_point", pair(1, [NULL + point(1)[4:]]), "no rule=P13 record=1", \
+        "record 1: 10 words; a Null has 2"
+    yield "P13_null_as_line", pair(3, [NULL + parted(3, [SEGMENT])[4:]]), "no rule=P13 record=1", \
+        "record 1: 40 words; a Null has 2"
+    yield "P13_null_p_negative", pair(3, [NULL + parted(3, [SEGMENT], p=-1)[4:]]), "no rule=P13 record=1", \
+        "record 1: 40 words; a Null has 2"
+    yield "P13_point_of_2", pair(1, [point(1)[:4]]), "no rule=P13 record=1", \
+        "record 1: 2 words; a Point has 10"
     yield "P13_point_long", pair(1, [point(1) + doubles(0.0)]), "no rule=P13 record=1", \
         "record 1: 14 words; a Point has 10"
     yield "P13_no_counts", pair(3, [little(3)]), "no rule=P13 record=1", \
@@ -207,6 +246,8 @@ def cases():
         "record 1: part 1 has -2 points, from 0 to -2; a Polyline's has at least 2"
     yield "P14_ring_of_3", pair(5, [parted(5, [SQUARE, [(0.0, 0.0), (1.0, 1.0), (0.0, 0.0)]])]), "no rule=P14 record=1", \
         "record 1: part 2 has 3 points, from 5 to 8; a Polygon's has at least 4"
+    yield "P14_behind_null", pair(3, [NULL, parted(3, [])]), "no rule=P14 record=2", \
+        "record 2: 0 parts; a Polyline has at least 1"
     open_ring = [(0.0, 0.0), (0.0, 1.0), (1.0, 1.0), (1.0, 0.0)]
     yield "P15_open", pair(5, [parted(5, [open_ring])]), "no rule=P15 record=1", \
         "record 1: ring 1 begins at (0, 0) and ends at (1, 0); it should end where it begins"
@@ -214,6 +255,8 @@ def cases():
         "record 2: ring 2 begins at (0, 0) and ends at (1, 0); it should end where it begins"
     yield "P15_y_only", pair(5, [parted(5, [[(0.0, 0.0), (0.0, 1.0), (1.0, 1.0), (0.0, 2.0)]])]), "no rule=P15 record=1", \
         "record 1: ring 1 begins at (0, 0) and ends at (0, 2); it should end where it begins"
+    yield "P15_behind_null", pair(5, [NULL, parted(5, [open_ring]), NULL]), "no rule=P15 record=2", \
+        "record 2: ring 1 begins at (0, 0) and ends at (1, 0); it should end where it begins"
     nan_ring = [(NAN, 0.0), (0.0, 1.0), (1.0, 1.0), (NAN, 0.0)]
     yield "P15_nan", pair(5, [parted(5, [nan_ring])]), "no rule=P15 record=1", \
         "record 1: ring 1 begins at (NaN, 0) and ends at (NaN, 0); NaN equals nothing"
@@ -232,10 +275,14 @@ def cases():
     inf_ring = [(INF, 0.0), (0.0, 1.0), (1.0, 1.0), (INF, 0.0)]
     yield "P16_ring", pair(5, [parted(5, [inf_ring])]), "no rule=P16 record=1", \
         "record 1: x of point 1 is inf; it should be finite"
+    yield "P16_behind_null", pair(11, [NULL, point(11, z=NAN)]), "no rule=P16 record=2", \
+        "record 2: z of point 1 is NaN; it should be finite"
     yield "P17_left", pair(3, two, entries=lambda i: i + [(200, 40)]), "no rule=P17 record=3", \
         "record 3: the index has 3 entries, the .shp has 2 records"
     yield "P17_of_none", pair(3, [], entries=lambda i: [(50, 40)]), "no rule=P17 record=1", \
         "record 1: the index has 1 entry, the .shp has 0 records"
+    yield "P17_behind_null", pair(3, [NULL], entries=lambda i: i + [(56, 2)]), "no rule=P17 record=2", \
+        "record 2: the index has 2 entries, the .shp has 1 record"
 
 
 def main():

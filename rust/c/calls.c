@@ -119,7 +119,7 @@ static void refusals_of_adding(mbenaruul_state s) {
     bad.words = -5;
     CHECK(is(add(bad, 3, 4, out, 88, entry, 8).refusal, 3, 0, 0) && add(bad, 3, 4, out, 88, entry, 8).state.words == -5);
     CHECK(is(add(s, 99, 4, out, 88, entry, 8).refusal, 4, 99, 0));
-    CHECK(is(add(s, 0, 4, out, 88, entry, 8).refusal, 9, 0, 0));
+    CHECK(is(add(s, 31, 4, out, 88, entry, 8).refusal, 9, 31, 0));
     CHECK(is(add(s, 5, 4, out, 88, entry, 8).refusal, 5, 3, 5));
     CHECK(is(add(s, 3, 3, out, 88, entry, 8).refusal, 10, 0, 0));
     CHECK(is(add(full, 3, 4, out, 88, entry, 8).refusal, 7, 0, 0));
@@ -129,6 +129,91 @@ static void refusals_of_adding(mbenaruul_state s) {
     CHECK(memcmp(out, untouched, 88) == 0 && memcmp(entry, untouched, 8) == 0);
     f = mbenaruul_finish(bad);
     CHECK(is(f.refusal, 3, 0, 0) && memcmp(f.shp, untouched, 88) == 0 && memcmp(f.shx, untouched, 88) == 0);
+}
+
+/* A Null record, with one entry in the table that is named, or in none. */
+static mbenaruul_added add_null(mbenaruul_state s, char table, uint8_t *out, size_t out_n, uint8_t *entry, size_t entry_n) {
+    return mbenaruul_add_record(s, 0, box, counts, table == 'c', xy, table == 'x', z, table == 'z', m, table == 'm', out, out_n, 2, entry, entry_n);
+}
+
+static mbenaruul_written write_null(mbenaruul_state *s, char table, uint8_t *out, size_t out_n, uint8_t *entry, size_t entry_n) {
+    return mbenaruul_write_shape(s, 0, box, counts, table == 'c', xy, table == 'x', z, table == 'z', m, table == 'm', out, out_n, 2, entry, entry_n);
+}
+
+/* Both calls refuse a Null record so, and leave the state and the room as they were. */
+static void refused_null(mbenaruul_state s, char table, size_t out_n, size_t entry_n, uint32_t number, uint64_t first) {
+    uint8_t out[15], entry[9], untouched[15];
+    mbenaruul_state lent = s;
+    mbenaruul_added a;
+    mbenaruul_written w;
+
+    memset(out, 0xaa, sizeof out);
+    memset(entry, 0xaa, sizeof entry);
+    memset(untouched, 0xaa, sizeof untouched);
+    a = add_null(s, table, out, out_n, entry, entry_n);
+    w = write_null(&lent, table, out, out_n, entry, entry_n);
+    CHECK(is(a.refusal, number, first, 0) && a.bytes == 0 && same_state(a.state, s));
+    CHECK(is(w.refusal, number, first, 0) && w.bytes == 0 && same_state(lent, s));
+    CHECK(memcmp(out, untouched, sizeof out) == 0 && memcmp(entry, untouched, sizeof entry) == 0);
+}
+
+/* A Null record behind a polyline of two points, whose state and files are given. */
+static void empty_place(mbenaruul_state s, const uint8_t *shp, const uint8_t *shx) {
+    static const uint8_t record[] = {0xaa, 0xaa, 0, 0, 0, 2, 0, 0, 0, 2, 0, 0, 0, 0, 0xaa}, place[] = {0, 0, 0, 94, 0, 0, 0, 2, 0xaa};
+    static const char tables[] = {'c', 'x', 'z', 'm'};
+    uint8_t a_out[15], b_out[15], a_entry[9], b_entry[9], with_shp[200], with_shx[116];
+    mbenaruul_state full = s, bad = s, lent = s, expected = s;
+    mbenaruul_added a;
+    mbenaruul_written b;
+    mbenaruul_finished f;
+    mbenaruul_pair_checked p;
+    mbenaruul_record_read r;
+    size_t k;
+
+    full.words = INT32_MAX - 5;
+    bad.words = -5;
+    for (k = 0; k < 4; k++) {
+        refused_null(bad, tables[k], 0, 0, 3, 0);
+        refused_null(mbenaruul_new(), tables[k], 0, 0, 9, 0);
+        refused_null(full, tables[k], 0, 0, 10, 0);
+        refused_null(s, tables[k], 14, 8, 10, 0);
+    }
+    refused_null(mbenaruul_new(), 0, 14, 8, 9, 0);
+    refused_null(full, 0, 0, 0, 7, 0);
+    refused_null(s, 0, 13, 0, 6, 14);
+    refused_null(s, 0, 14, 7, 6, 8);
+
+    memset(a_out, 0xaa, sizeof a_out);
+    memset(b_out, 0xaa, sizeof b_out);
+    memset(a_entry, 0xaa, sizeof a_entry);
+    memset(b_entry, 0xaa, sizeof b_entry);
+    a = add_null(s, 0, a_out, sizeof a_out, a_entry, sizeof a_entry);
+    b = write_null(&lent, 0, b_out, 14, b_entry, 8);
+    expected.words = 100;
+    expected.number = 3;
+    CHECK(is(a.refusal, 0, 0, 0) && a.bytes == 12 && same_state(a.state, expected));
+    CHECK(is(b.refusal, 0, 0, 0) && b.bytes == 12 && same_state(lent, expected));
+    CHECK(memcmp(a_out, record, sizeof record) == 0 && memcmp(a_entry, place, sizeof place) == 0);
+    CHECK(memcmp(b_out, record, sizeof record) == 0 && memcmp(b_entry, place, sizeof place) == 0);
+
+    f = mbenaruul_finish(lent);
+    CHECK(is(f.refusal, 0, 0, 0) && memcmp(f.shp + 32, shp + 32, 68) == 0 && memcmp(f.shx + 32, shx + 32, 68) == 0);
+    memcpy(with_shp, f.shp, 100);
+    memcpy(with_shp + 100, shp + 100, 88);
+    memcpy(with_shp + 188, b_out + 2, 12);
+    memcpy(with_shx, f.shx, 100);
+    memcpy(with_shx + 100, shx + 100, 8);
+    memcpy(with_shx + 108, b_entry, 8);
+    p = mbenaruul_check_pair(with_shp, 200, with_shx, 116);
+    CHECK(is(p.refusal, 0, 0, 0) && p.totals.records == 2 && p.totals.parts == 1 && p.totals.points == 2);
+    r = mbenaruul_read_record(with_shp + 196, 4, 4, NULL, 0, NULL, 0, NULL, 0, NULL, 0);
+    CHECK(is(r.refusal, 0, 0, 0) && r.code == 0 && r.form == 0);
+    CHECK(is(mbenaruul_read_record_of(3, with_shp + 196, 4, 4, NULL, 0, NULL, 0, NULL, 0, NULL, 0).refusal, 5, 3, 0));
+    with_shp[196] = 5;
+    CHECK(is(mbenaruul_check_pair(with_shp, 200, with_shx, 116).refusal, 8, 12, 2));
+
+    CHECK(is(mbenaruul_add_record(s, 0, box, NULL, 0, NULL, 0, NULL, 0, NULL, 0, NULL, 0, 100, NULL, 0).refusal, 6, 112, 0));
+    CHECK(is(mbenaruul_write_shape(&s, 0, box, NULL, 0, NULL, 0, NULL, 0, NULL, 0, NULL, 0, SIZE_MAX, NULL, 0).refusal, 6, SIZE_MAX, 0));
 }
 
 /* The state by value and the state lent come to the same. */
@@ -260,6 +345,7 @@ int main(void) {
     heads(shp, shx);
     records(shp + 108);
     refusals_of_adding(s);
+    empty_place(s, shp, shx);
     write_both_ways();
     every_field();
     null_read(shp, shp + 108);

@@ -98,12 +98,21 @@ static mbenaruul_state with_point(mbenaruul_state s, uint64_t x, uint64_t y) {
     return mbenaruul_add_record(s, 1, box, NULL, 0, xy, 2, NULL, 0, NULL, 0, out, sizeof out, 0, entry, 8).state;
 }
 
+static mbenaruul_state with_null(mbenaruul_state s) {
+    uint8_t out[12], entry[8];
+    const mbenaruul_bbox box = {0, 0, 0, 0, 0, 0, 0, 0};
+
+    return mbenaruul_add_record(s, 0, box, NULL, 0, NULL, 0, NULL, 0, NULL, 0, out, sizeof out, 0, entry, 8).state;
+}
+
 static void boxes(void) {
-    mbenaruul_state s = with_point(mbenaruul_new(), LEAST, MINUS_LEAST);
+    mbenaruul_state s = with_point(mbenaruul_new(), LEAST, MINUS_LEAST), after = with_null(s);
 
     of = "one point";
     CHECK(has_bits(s.bbox.xmin, LEAST) && has_bits(s.bbox.xmax, LEAST));
     CHECK(has_bits(s.bbox.ymin, MINUS_LEAST) && has_bits(s.bbox.ymax, MINUS_LEAST));
+    of = "and an empty place";
+    CHECK(after.number == 3 && after.kind == 1 && memcmp(&after.bbox, &s.bbox, sizeof s.bbox) == 0);
     of = "and (0, 0)";
     s = with_point(s, ZERO, ZERO);
     CHECK(has_bits(s.bbox.xmin, ZERO) && has_bits(s.bbox.xmax, LEAST));

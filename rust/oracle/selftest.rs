@@ -1,10 +1,15 @@
 //! The oracle's self-test: what document 01 says of the Rust, asked of the Rust through the driver.
 //!
 //! It covers the document's "Examples" and "Easy to get wrong", and one or more cases for each
-//! function of the driver. Bytes are put together here by hand, not by the code under test.
+//! function of the driver; and what docs/DIFFERENCES.md says of Null records, which the driver does
+//! not reach. Bytes are put together here by hand, not by the code under test.
 
 use shapefile::driver::*;
+use shapefile::record::{EsriShape, WritableShape};
+use shapefile::{HasShapeType, ShapeReader, ShapeType, ShapeWriter};
 use std::fmt::Debug;
+use std::io::{Cursor, Write};
+use std::marker::PhantomData;
 use std::process::ExitCode;
 
 const NO_DATA: f64 = -10e38;
@@ -620,6 +625,137 @@ fn writer_states(checks: &mut Checks) {
     }
 }
 
+/// Whether the crate's writer takes this type: the constant of the type itself, where it is
+/// writable, comes before that of the trait.
+struct Writer<S>(PhantomData<S>);
+
+impl<S: EsriShape> Writer<S> {
+    const TAKES: bool = true;
+}
+
+trait OfAnything {
+    const TAKES: bool = false;
+}
+
+impl<S> OfAnything for Writer<S> {}
+
+/// A type of a user's own whose kind is NullShape. The crate has none that is writable.
+struct NoShape;
+
+impl HasShapeType for NoShape {
+    fn shapetype() -> ShapeType {
+        ShapeType::NullShape
+    }
+}
+
+impl WritableShape for NoShape {
+    fn size_in_bytes(&self) -> usize {
+        0
+    }
+
+    fn write_to<T: Write>(&self, _: &mut T) -> Result<(), shapefile::Error> {
+        Ok(())
+    }
+}
+
+impl EsriShape for NoShape {
+    fn x_range(&self) -> [f64; 2] {
+        [0.0; 2]
+    }
+
+    fn y_range(&self) -> [f64; 2] {
+        [0.0; 2]
+    }
+}
+
+/// The files of the crate's `ShapeWriter` for these records, true for a polyline of two points and
+/// false for `NoShape`; and the errors that it gave.
+fn with_nulls(records: &[bool]) -> (Files, Vec<String>) {
+    let (mut shp, mut shx) = (Cursor::new(Vec::new()), Cursor::new(Vec::new()));
+    let mut writer = ShapeWriter::with_shx(&mut shp, &mut shx);
+    let [from, to] = [[1.0, 2.0], [3.0, 4.0]].map(|[x, y]| shapefile::Point::new(x, y));
+    let line = shapefile::Polyline::new(vec![from, to]);
+    let mut errors = Vec::new();
+    for is_line in records {
+        let written = match is_line {
+            true => writer.write_shape(&line),
+            false => writer.write_shape(&NoShape),
+        };
+        errors.extend(written.err().map(|error| format!("{error:?}")));
+    }
+    writer.finalize().expect("a file in memory takes all bytes");
+    drop(writer);
+    let (shp, shx) = (shp.into_inner(), shx.into_inner());
+    (Files { shp, shx }, errors)
+}
+
+/// How many shapes the crate's own reader finds in the two files, or what it says.
+fn shapes_in(files: &Files) -> Result<usize, String> {
+    let [shp, shx] = [&files.shp, &files.shx].map(Cursor::new);
+    let reader = ShapeReader::with_shx(shp, shx).map_err(|error| error.to_string())?;
+    let shapes = reader.read().map_err(|error| error.to_string())?;
+    Ok(shapes.len())
+}
+
+/// What docs/DIFFERENCES.md says under null-among-others.
+fn null_shapes(checks: &mut Checks) {
+    checks.holds(
+        "a Polyline is writable",
+        Writer::<shapefile::Polyline>::TAKES,
+    );
+    checks.holds("a Shape is not", !Writer::<shapefile::Shape>::TAKES);
+
+    // Behind a line it is refused, and leaves no trace.
+    let (line, errors) = with_nulls(&[true]);
+    checks.same("a line", errors, vec![]);
+    let (behind, errors) = with_nulls(&[true, false]);
+    let mismatch = "MismatchShapeType { requested: Polyline, actual: NullShape }";
+    checks.same("Null behind a line", errors, vec![mismatch.to_string()]);
+    checks.same("it left no trace", behind, line);
+
+    // Alone it is a record of 2 words in a file of kind 0.
+    let (alone, errors) = with_nulls(&[false]);
+    checks.same("Null alone", (errors, shapes_in(&alone)), (vec![], Ok(1)));
+    let record = [big_numbers(&[1, 2]), numbers(&[0])].concat();
+    checks.same("its record", &alone.shp[100..], &record[..]);
+    checks.same("its entry", &alone.shx[100..], &big_numbers(&[50, 2])[..]);
+    let header = Header {
+        file_length: 56,
+        version: 1000,
+        kind: 0,
+        bbox: [0.0; 8],
+    };
+    checks.same("its header", read_header(&alone.shp), Ok(header));
+
+    // What follows, a line or another Null, gets a second header in front of it, in both files; the
+    // entry behind that header names the place of the header, and the lengths do not count it.
+    for (second, kind, words) in [(true, 3, 40), (false, 0, 2)] {
+        let (files, errors) = with_nulls(&[false, second]);
+        checks.same("no error", errors, vec![]);
+        let Files { shp, shx } = &files;
+        checks.same(
+            "lengths of the files",
+            (shp.len(), shx.len()),
+            (100 + 12 + 100 + 8 + 2 * words as usize, 100 + 8 + 100 + 8),
+        );
+        checks.same("Null's record", &shp[100..112], &record[..]);
+        checks.same("Null's entry", &shx[100..108], &big_numbers(&[50, 2])[..]);
+        let headers = [&shp[..], &shp[112..], &shx[..], &shx[108..]];
+        let kinds_and_lengths = headers.map(|bytes| {
+            let header = read_header(bytes).unwrap();
+            (header.kind, header.file_length)
+        });
+        let length = 50 + 6 + 4 + words;
+        let expected = [(kind, length), (kind, 56), (kind, 58), (kind, 56)];
+        checks.same("the four headers", kinds_and_lengths, expected);
+        checks.same("record 2", read_record_header(&shp[212..]), Ok((2, words)));
+        checks.same("its entry", &shx[208..], &big_numbers(&[56, words])[..]);
+        checks.holds("the crate cannot read it", shapes_in(&files).is_err());
+    }
+    let (_, errors) = with_nulls(&[false, true, false]);
+    checks.same("then Null is refused", errors, vec![mismatch.to_string()]);
+}
+
 fn constructors(checks: &mut Checks) {
     let mut line = rising_shape(23, &[2, 2]);
     line.body.xy = vec![4.0, -1.0, 2.0, 7.0, 3.0, 3.0, 9.0, 0.0];
@@ -723,6 +859,15 @@ fn records(checks: &mut Checks) {
         body: None,
     });
     checks.same("Null at any size", read_record(&numbers(&[0]), -7), null);
+    let mismatch = Err(Refusal::Mismatch {
+        wanted: 3,
+        found: 0,
+    });
+    checks.same(
+        "Null, typed",
+        read_record_as(3, &numbers(&[0]), 4),
+        mismatch,
+    );
     checks.same(
         "cut kind",
         read_record(&[3, 0, 0], 48),
@@ -802,6 +947,7 @@ fn main() -> ExitCode {
         file_of_lines,
         files_of_all_kinds,
         writer_states,
+        null_shapes,
         constructors,
         records,
         index,

@@ -25,7 +25,8 @@ pub enum Error {
     },
     /// 4: there is no kind with this code.
     Unknown(i32),
-    /// 5: another kind than the one wanted, or than that of the records written before.
+    /// 5: another kind than the one wanted, or than that of the records written before. A Null that
+    /// is written is no other kind; one that is read, where a kind is wanted, is.
     Mismatch {
         /// The kind that was wanted.
         wanted: i32,
@@ -50,9 +51,9 @@ pub enum Error {
         /// The number of the record that breaks it, from 1; 0 for the headers.
         record: usize,
     },
-    /// 9: a kind that is not read, or not written.
+    /// 9: a kind that is not read, or not written. Null is not written as the first record.
     NotTaken(i32),
-    /// 10: tables that disagree in length.
+    /// 10: tables that disagree in length, or a table of a Null record that is not empty.
     Tables,
 }
 

@@ -51,7 +51,7 @@ pub struct Header {
     pub file_length: Words,
     /// 1000 in a file that is right; it is not judged here.
     pub version: i32,
-    /// The kind of the file's shapes.
+    /// The kind of the file's shapes; a Null may stand among them.
     pub shape_type: i32,
     /// The box around the file's shapes.
     pub bbox: BBoxZ,

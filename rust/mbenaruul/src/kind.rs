@@ -1,6 +1,6 @@
 //! The kinds of shapes that are taken, by name: the codes that stand in files.
 
-/// No shape.
+/// No shape: an empty place, which may stand among the records of a file of any kind.
 pub const NULL: i32 = 0;
 /// A point.
 pub const POINT: i32 = 1;

@@ -16,7 +16,7 @@ pub const NO_DATA: f64 = -10e38;
 #[derive(Debug, Clone, PartialEq)]
 #[non_exhaustive]
 pub enum Record {
-    /// No shape.
+    /// No shape: an empty place, which may stand in a file of any kind.
     Null,
     /// A point.
     Point {
@@ -114,7 +114,8 @@ impl Record {
     }
 
     /// The record as the writer takes it, and as it stands here: one that [lacks
-    /// m](Record::lacks_m) has no m in its tables either. The Null record is refused there with 9.
+    /// m](Record::lacks_m) has no m in its tables either, and a Null record has none that is not
+    /// empty.
     pub fn tables(&self) -> Tables<'_> {
         match self {
             Record::Null => Tables::default(),

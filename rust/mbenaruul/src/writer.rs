@@ -7,15 +7,16 @@ use crate::record::{Range, Record};
 
 /// A shape to write, in flat tables. The part counts sum to the number of points, n; xy holds 2n
 /// doubles; z and m hold n where the kind has them, else none. A point kind has no parts and n is
-/// 1.
+/// 1. A Null has nothing in any table: the default is one.
 ///
 /// The tables of a record that was read are [`Record::tables`].
 #[derive(Debug, Clone, Copy, Default, PartialEq)]
 pub struct Tables<'a> {
-    /// The kind's code: any of [`kind`](crate::kind) but Null.
+    /// The kind's code: any of [`kind`](crate::kind); Null behind another record only.
     pub kind: i32,
     /// The shape's box and ranges, which are written as given; [`Tables::with_true_bbox`] puts the
-    /// true ones here. A point has none: its own values count.
+    /// true ones here. A point has none: its own values count. A Null has none either, and what
+    /// stands here plays no part.
     pub bbox: BBoxZ,
     /// The number of points of each part.
     pub counts: &'a [u32],
@@ -80,13 +81,39 @@ fn range_of<'a>(values: impl Iterator<Item = &'a f64> + Clone) -> Option<Range> 
     })
 }
 
-/// The two files of a pair, while records are added. All records have the kind of the first.
-/// A clone can be finished halfway.
+/// The two files of a pair, while records are added. All records have the kind of the first, or are
+/// Null; the first is not Null. A clone can be finished halfway.
 ///
 /// The writer judges kinds and the lengths of tables. It does not judge what the tables hold: a ring
 /// that is not closed, NaN or an infinity, a part of one point or of none, and a box that is not the
 /// true one are written as given. Of the pair that comes out, [`check_pair`](crate::check_pair)
 /// judges all of these but the boxes.
+///
+/// A plan with an empty place, where a shelf run was taken down. The runs behind it keep their
+/// numbers:
+///
+/// ```
+/// use mbenaruul::{kind, Plan, Record, Tables, Writer};
+///
+/// # fn main() -> Result<(), mbenaruul::Error> {
+/// let run = Tables {
+///     kind: kind::POLYLINE,
+///     counts: &[2],
+///     xy: &[0.0, 0.0, 9.0, 0.0],
+///     ..Tables::default()
+/// };
+/// let mut writer = Writer::new();
+/// writer.add(&run.with_true_bbox())?;
+/// writer.add_record(&Record::Null)?;
+/// writer.add(&run.with_true_bbox())?;
+/// let (shp, shx) = writer.finish()?;
+///
+/// let plan = Plan::check(&shp, &shx)?;
+/// assert_eq!(plan.totals().to_string(), "records=3 parts=2 points=4");
+/// assert_eq!(plan.record(2), Some(Ok(Record::Null)));
+/// # Ok(())
+/// # }
+/// ```
 #[derive(Debug, Clone)]
 pub struct Writer {
     state: ffi::State,
@@ -113,6 +140,9 @@ impl Writer {
 
     /// Adds a shape as the next record. Refusals, which leave the writer as it was: 4, 9, 5, 10,
     /// 7.
+    ///
+    /// A Null is 9 as the first record, since the file has no kind yet. Behind another it is taken,
+    /// and the header keeps its kind and its box.
     pub fn add(&mut self, tables: &Tables<'_>) -> Result<(), Error> {
         let before = self.shp.len();
         let after = self.bytes_with(tables)?;
@@ -128,8 +158,8 @@ impl Writer {
     }
 
     /// Adds what was read as the next record. Refusals as those of [`add`](Writer::add): a Null
-    /// record is 9, and one that [lacks m](Record::lacks_m) is 10, unless its m is filled in by
-    /// [`Record::with_no_data`].
+    /// record is 9 as the first one, and one that [lacks m](Record::lacks_m) is 10, unless its m is
+    /// filled in by [`Record::with_no_data`].
     pub fn add_record(&mut self, record: &Record) -> Result<(), Error> {
         self.add(&record.tables())
     }
@@ -201,6 +231,79 @@ mod tests {
         let mut writer = writer_at(49);
         assert_eq!(writer.add(&SEGMENT), Err(Error::Size { at: 0 }));
         assert_eq!(writer.finish().unwrap_err(), Error::Size { at: 0 });
+    }
+
+    /// What is in no table.
+    const NULL: Tables<'_> = Tables {
+        kind: kind::NULL,
+        counts: &[],
+        xy: &[],
+        ..SEGMENT
+    };
+
+    /// The same with one entry in one of the four tables.
+    const NOT_EMPTY: [Tables<'_>; 4] = [
+        Tables {
+            counts: &[0],
+            ..NULL
+        },
+        Tables { xy: &[0.0], ..NULL },
+        Tables { z: &[0.0], ..NULL },
+        Tables { m: &[0.0], ..NULL },
+    ];
+
+    #[test]
+    fn a_null_takes_6_words_and_leaves_kind_and_box() {
+        let mut writer = writer_at(i32::MAX - 6);
+        let before = writer.clone();
+        assert_eq!(writer.add(&NULL), Ok(()));
+        let state = ffi::State {
+            words: i32::MAX,
+            number: before.state.number + 1,
+            ..before.state
+        };
+        assert_eq!(writer.state, state);
+        // number 2, 2 words, kind 0; where it stands, 2 words
+        let record = [0, 0, 0, 2, 0, 0, 0, 2, 0, 0, 0, 0];
+        assert_eq!(writer.shp, [&before.shp[..], &record].concat());
+        let entry = [0x7f, 0xff, 0xff, 0xf9, 0, 0, 0, 2];
+        assert_eq!(writer.shx, [&before.shx[..], &entry].concat());
+    }
+
+    /// What the library says of these tables on a state, with this much room for the record from
+    /// byte 5 on, and for the entry.
+    fn said(state: ffi::State, tables: &Tables<'_>, room: usize, entry: usize) -> Error {
+        let (mut out, mut entry) = (vec![9; room], vec![9; entry]);
+        let added = ffi::add_record(state, tables, &mut out, 5, &mut entry);
+        assert_eq!((added.state, added.bytes), (state, 0));
+        assert!(out.iter().chain(&entry).all(|&byte| byte == 9));
+        added.refusal.into_result().unwrap_err()
+    }
+
+    #[test]
+    fn a_null_is_refused_in_the_order_of_the_refusals() {
+        let (fresh, set) = (ffi::new(), writer_at(94).state);
+        let full = ffi::State {
+            words: i32::MAX - 5,
+            ..set
+        };
+        let no_state = ffi::State { words: 49, ..set };
+        for tables in NOT_EMPTY {
+            assert_eq!(said(no_state, &tables, 0, 0), Error::Size { at: 0 });
+            assert_eq!(said(fresh, &tables, 0, 0), Error::NotTaken(0));
+            assert_eq!(said(full, &tables, 0, 0), Error::Tables);
+            assert_eq!(said(set, &tables, 17, 8), Error::Tables);
+        }
+        assert_eq!(said(no_state, &NULL, 17, 8), Error::Size { at: 0 });
+        assert_eq!(said(fresh, &NULL, 17, 8), Error::NotTaken(0));
+        assert_eq!(said(full, &NULL, 0, 0), Error::Long);
+        let room = |first| Error::Room { first, second: 0 };
+        assert_eq!(said(set, &NULL, 16, 0), room(17));
+        assert_eq!(said(set, &NULL, 17, 7), room(8));
+        let (mut out, mut entry) = ([9; 18], [9; 9]);
+        let added = ffi::add_record(set, &NULL, &mut out, 5, &mut entry);
+        assert_eq!(added.refusal.into_result(), Ok(()));
+        assert_eq!((added.bytes, out[4], out[17], entry[8]), (12, 9, 9, 9));
     }
 
     #[test]

@@ -2,8 +2,8 @@
 
 mod common;
 
-use common::{bytes, read_all, record, written, Random, KINDS};
-use mbenaruul::{kind, Error, Plan, Range, Record, Shape, Tables, Writer, NO_DATA};
+use common::{bytes, read_all, record, with_nulls, written, Random, KINDS};
+use mbenaruul::{kind, BBoxZ, Error, Plan, Range, Record, Shape, Tables, Writer, NO_DATA};
 
 fn shape_of(record: &Record) -> &Shape {
     match record {
@@ -23,10 +23,54 @@ fn the_tables_of_every_kind_are_taken() {
         writer.add(&record.tables()).unwrap();
         assert_eq!(writer.finish().unwrap(), written(&[record]));
     }
+}
+
+#[test]
+fn a_null_is_taken_behind_another_record() {
     assert_eq!((Record::Null.kind(), Record::Null.lacks_m()), (0, false));
     assert_eq!(Record::Null.with_no_data(), Record::Null);
-    let refused = Writer::new().add(&Record::Null.tables());
-    assert_eq!(refused, Err(Error::NotTaken(kind::NULL)));
+    assert_eq!(Record::Null.tables(), Tables::default());
+    for kind in KINDS {
+        let record = record(kind, &mut Random::new(20 + kind as u64));
+        let mut writer = Writer::new();
+        for _ in 0..2 {
+            let refused = writer.add_record(&Record::Null);
+            assert_eq!(refused, Err(Error::NotTaken(kind::NULL)));
+        }
+        writer.add_record(&record).unwrap();
+        writer.add_record(&Record::Null).unwrap();
+        writer.add(&Record::Null.tables().with_true_bbox()).unwrap();
+        writer.add_record(&record).unwrap();
+        let (shp, shx) = writer.finish().unwrap();
+        let all = [record.clone(), Record::Null, Record::Null, record];
+        assert_eq!((&shp, &shx), (&written(&all).0, &written(&all).1));
+        assert_eq!(read_all(&Plan::check(&shp, &shx).unwrap()), all);
+    }
+}
+
+#[test]
+fn the_box_of_a_null_plays_no_part() {
+    let sides = BBoxZ {
+        xmin: f64::NEG_INFINITY,
+        ymin: f64::NAN,
+        xmax: f64::INFINITY,
+        ymax: 1e300,
+        zmin: -1e300,
+        zmax: 1e300,
+        mmin: -1e300,
+        mmax: f64::NAN,
+    };
+    let boxed = Tables {
+        bbox: sides,
+        ..Tables::default()
+    };
+    for kind in KINDS {
+        let record = record(kind, &mut Random::new(40 + kind as u64));
+        let mut writer = Writer::new();
+        writer.add_record(&record).unwrap();
+        writer.add(&boxed).unwrap();
+        assert_eq!(writer.finish().unwrap(), written(&with_nulls(&[record])));
+    }
 }
 
 #[test]

@@ -102,6 +102,9 @@ fn a_pair_with_true_boxes_has_the_true_box_in_its_header() {
             let record: Record = record(kind, &mut random);
             let tables = record.tables().with_true_bbox();
             writer.add(&tables).unwrap();
+            // an empty place, whose own box is one of zeros
+            let null = Record::Null.tables().with_true_bbox();
+            writer.add(&null).unwrap();
             xy.extend(tables.xy);
             z.extend(tables.z);
             m.extend(tables.m);

@@ -78,6 +78,15 @@ fn both_files_of_every_kind() {
 }
 
 #[test]
+fn a_null() {
+    for size in [4, 6, 80] {
+        cut_everywhere(&[0; 4], &vec![4], |content| {
+            read_record(content, Bytes(size), None)
+        });
+    }
+}
+
+#[test]
 fn a_body_without_the_m_that_its_kind_has() {
     let whole = content(23, 1, 2, &[0], &[0.0; 4]);
     let widths = content_widths(3, 1, 2);

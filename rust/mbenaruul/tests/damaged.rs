@@ -3,8 +3,8 @@
 
 mod common;
 
-use common::{damage, is_divided, read_all, record, totals, written, Random, KINDS};
-use mbenaruul::{read_record, Bytes, Error, Plan, Record};
+use common::{damage, is_divided, read_all, record, records, totals, written, Random, KINDS};
+use mbenaruul::{read_record, Bytes, Error, Plan};
 use std::collections::BTreeSet;
 
 #[test]
@@ -14,8 +14,7 @@ fn a_damaged_pair_is_answered_and_a_yes_is_readable() {
     for kind in KINDS {
         let mut random = Random::new(kind as u64);
         for _ in 0..1500 {
-            let records: Vec<Record> = (0..3).map(|_| record(kind, &mut random)).collect();
-            let (mut shp, mut shx) = written(&records);
+            let (mut shp, mut shx) = written(&records(kind, 3, &mut random));
             let damaged = if random.below(3) == 0 {
                 &mut shx
             } else {

@@ -143,6 +143,16 @@ fn a_record_that_is_skipped_is_not_read() {
 }
 
 #[test]
+fn a_null_takes_no_memory_whatever_its_content_says() {
+    let long = content(0, 500_000_000, 100_000_000, &[-1; 100], &[f64::NAN; 100]);
+    for size in [4, 5, 1_000_000_000, i64::from(i32::MAX)] {
+        let before = ASKED.with(Cell::get);
+        assert_eq!(read(&long, size, None), Ok(Record::Null));
+        assert_eq!(ASKED.with(Cell::get), before);
+    }
+}
+
+#[test]
 fn every_size_and_wanted_kind_is_answered() {
     let sizes = [
         i64::MIN,
@@ -182,7 +192,7 @@ fn nothing_at_all_is_answered_by_every_call() {
         Writer::new().add(&Tables::default()),
         Err(Error::NotTaken(0))
     );
-    // a polyline without a part can be written, and no pair may hold it
+    // a polyline without a part can be written, and no pair may hold it; a Null may stand behind it
     let mut writer = Writer::new();
     writer
         .add(&Tables {
@@ -190,6 +200,7 @@ fn nothing_at_all_is_answered_by_every_call() {
             ..Tables::default()
         })
         .unwrap();
+    writer.add(&Tables::default()).unwrap();
     let (shp, shx) = writer.finish().unwrap();
     assert_eq!(
         check_pair(&shp, &shx),

@@ -3,8 +3,10 @@
 
 mod common;
 
-use common::{content, exchange, pairs, record, written, Random, KINDS};
-use mbenaruul::{check_pair, kind, BBoxZ, Cause, Error, File, Reason, Tables, Verdict, Writer};
+use common::{content, exchange, pairs, record, records, written, Random, KINDS};
+use mbenaruul::{
+    check_pair, kind, BBoxZ, Cause, Error, File, Reason, Record, Tables, Verdict, Writer,
+};
 
 /// The pair's no and its reason.
 fn refused(shp: &[u8], shx: &[u8]) -> (Error, Reason) {
@@ -110,6 +112,44 @@ fn a_point_z_without_m() {
 }
 
 #[test]
+fn of_a_null_the_length_is_judged_and_nothing_else() {
+    // its content is that of a polyline, with counts, starts and doubles that no shape may have
+    let nothing_is_right = content(kind::NULL, -1, i32::MIN, &[7], &[f64::NAN; 4]);
+    for kind in KINDS {
+        for words in 3..=40 {
+            let (shp, shx) = one(kind, &nothing_is_right[..2 * words]);
+            let (_, reason) = refused(&shp, &shx);
+            let text = format!("record 1: {words} words; a Null has 2");
+            assert_eq!(reason.to_string(), text);
+            assert_eq!((reason.file, reason.offset), (File::Shp, 104));
+            let cause = Cause::FixedLength {
+                kind: kind::NULL,
+                words: words as i32,
+                wanted: 2,
+            };
+            assert_eq!(reason.cause, cause);
+            for rule in [12, 14, 15, 16] {
+                let fault = Error::Fault { rule, record: 1 };
+                assert_eq!(fault.why(&shp, &shx), None, "{fault}");
+            }
+        }
+        let (shp, shx) = one(kind, &nothing_is_right[..4]);
+        assert!(check_pair(&shp, &shx).is_ok());
+    }
+}
+
+#[test]
+fn in_a_file_of_nulls_every_other_kind_is_another() {
+    for found in KINDS.into_iter().chain([2, 8, 256, -1]) {
+        let (shp, shx) = one(kind::NULL, &content(found, 1, 2, &[0], &[0.0; 4]));
+        let (_, reason) = refused(&shp, &shx);
+        assert_eq!((reason.file, reason.offset), (File::Shp, 108));
+        let wanted = kind::NULL;
+        assert_eq!(reason.cause, Cause::RecordKind { found, wanted });
+    }
+}
+
+#[test]
 fn lengths_without_m_and_with_it() {
     let texts = [
         (
@@ -174,8 +214,7 @@ fn whatever_is_refused_has_a_reason_and_its_number_mends_it() {
     for kind in KINDS {
         let mut random = Random::new(7 + kind as u64);
         for _ in 0..1500 {
-            let records: Vec<_> = (0..3).map(|_| record(kind, &mut random)).collect();
-            let (mut shp, mut shx) = written(&records);
+            let (mut shp, mut shx) = written(&records(kind, 3, &mut random));
             let either = if random.below(3) == 0 {
                 &mut shx
             } else {
@@ -229,7 +268,9 @@ fn mend(reason: &Reason, shp: &mut [u8], shx: &mut [u8]) -> bool {
 fn a_fault_of_other_files_has_no_reason() {
     let good = written(&[
         record(5, &mut Random::new(1)),
+        Record::Null,
         record(5, &mut Random::new(2)),
+        Record::Null,
     ]);
     let nothing = (Vec::new(), Vec::new());
     let header = (common::header(9994, 50, 5), common::header(9994, 50, 5));
@@ -253,7 +294,7 @@ fn a_reason_is_found_in_bytes_of_any_kind() {
     let mut random = Random::new(3);
     for _ in 0..20_000 {
         let kind = KINDS[random.below(KINDS.len())];
-        let (mut shp, shx) = written(&[record(kind, &mut random)]);
+        let (mut shp, shx) = written(&records(kind, 2, &mut random));
         for _ in 0..1 + random.below(4) {
             common::damage(&mut shp, &mut random);
             if shp.is_empty() {

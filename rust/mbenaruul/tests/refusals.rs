@@ -3,10 +3,10 @@
 
 mod common;
 
-use common::{content, header};
+use common::{content, header, KINDS};
 use mbenaruul::{
     check_pair, close_points_if_not_already, is_part_closed, read_header, read_index_entry,
-    read_record, ring_type_from_points_ordering, Bytes, Error, Tables, Writer,
+    read_record, ring_type_from_points_ordering, Bytes, Error, Record, Tables, Writer,
 };
 use std::collections::HashSet;
 
@@ -130,6 +130,33 @@ fn mismatch_5() {
             found: 5
         })
     );
+    // a Null behind a record is of no other kind, and changes nothing for those behind it
+    writer.add(&Tables::default()).unwrap();
+    let other = writer.add(&Tables { kind: 5, ..SEGMENT });
+    assert_eq!(
+        other,
+        Err(Error::Mismatch {
+            wanted: 3,
+            found: 5
+        })
+    );
+}
+
+#[test]
+fn mismatch_5_of_a_null_that_is_read_where_a_kind_is_wanted() {
+    for kind in KINDS {
+        for size in [4, 6, 80] {
+            let read = |wanted| read_record(&[0; 80], Bytes(size), wanted);
+            assert_eq!(read(None), Ok(Record::Null));
+            assert_eq!(
+                read(Some(kind)),
+                Err(Error::Mismatch {
+                    wanted: kind,
+                    found: 0
+                })
+            );
+        }
+    }
 }
 
 #[test]
@@ -169,10 +196,19 @@ fn not_taken_9() {
         read_record(&segment(), SEGMENT_SIZE, Some(0)),
         Err(Error::NotTaken(0))
     );
-    for kind in [0, 8, 18, 28, 31] {
-        let added = Writer::new().add(&Tables { kind, ..SEGMENT });
-        assert_eq!(added, Err(Error::NotTaken(kind)));
+    let mut behind = Writer::new();
+    behind.add(&SEGMENT).unwrap();
+    for kind in [8, 18, 28, 31] {
+        for writer in [&mut Writer::new(), &mut behind] {
+            let added = writer.add(&Tables { kind, ..SEGMENT });
+            assert_eq!(added, Err(Error::NotTaken(kind)));
+        }
     }
+    // a Null is not taken as the first record, whatever its tables hold
+    for tables in [Tables { kind: 0, ..SEGMENT }, Tables::default()] {
+        assert_eq!(Writer::new().add(&tables), Err(Error::NotTaken(0)));
+    }
+    assert_eq!(behind.add(&Tables::default()), Ok(()));
 }
 
 #[test]
@@ -258,6 +294,35 @@ fn tables_10_of_a_shape() {
     for tables in &wrong {
         assert_eq!(Writer::new().add(tables), Err(Error::Tables), "{tables:?}");
     }
+}
+
+#[test]
+fn tables_10_of_a_null() {
+    let mut writer = Writer::new();
+    writer.add(&SEGMENT).unwrap();
+    let null = Tables::default();
+    let not_empty = [
+        Tables { kind: 0, ..SEGMENT },
+        Tables {
+            counts: &[0],
+            ..null
+        },
+        Tables {
+            counts: &[u32::MAX, u32::MAX],
+            ..null
+        },
+        Tables { xy: &[0.0], ..null },
+        Tables {
+            xy: &[0.0, 0.0],
+            ..null
+        },
+        Tables { z: &[0.0], ..null },
+        Tables { m: &[0.0], ..null },
+    ];
+    for tables in &not_empty {
+        assert_eq!(writer.add(tables), Err(Error::Tables), "{tables:?}");
+    }
+    assert_eq!(writer.add(&null), Ok(()));
 }
 
 /// There may be more refusals one day: were `Error` exhaustive, the last arm would be unreachable, and

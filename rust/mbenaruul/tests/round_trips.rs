@@ -2,15 +2,15 @@
 
 mod common;
 
-use common::{read_all, record, totals, written, Random, KINDS};
-use mbenaruul::{points, Plan, Record, Records, Verdict};
+use common::{read_all, record, totals, with_nulls, written, Random, KINDS};
+use mbenaruul::{points, read_index_entry, Plan, Record, Records, Verdict, Words};
 
 #[test]
 fn what_is_written_is_a_pair_and_reads_back() {
     for kind in KINDS {
         let mut random = Random::new(kind as u64);
         for length in 1..40 {
-            let records: Vec<Record> = (0..length).map(|_| record(kind, &mut random)).collect();
+            let records = common::records(kind, length, &mut random);
             let (shp, shx) = written(&records);
             let plan = Plan::check(&shp, &shx).expect("a pair");
             assert_eq!(plan.totals(), totals(&records));
@@ -25,10 +25,56 @@ fn what_is_written_is_a_pair_and_reads_back() {
     }
 }
 
+/// The kind and the box of a header, as its bytes.
+fn kind_and_box(header: &[u8]) -> &[u8] {
+    &header[32..100]
+}
+
+#[test]
+fn an_empty_place_takes_12_bytes_and_8_and_leaves_kind_and_box() {
+    for kind in KINDS {
+        let mut random = Random::new(60 + kind as u64);
+        for length in 1..8 {
+            let records: Vec<Record> = (0..length).map(|_| record(kind, &mut random)).collect();
+            let (shp, shx) = written(&records);
+            let empty = with_nulls(&records);
+            let (empty_shp, empty_shx) = written(&empty);
+            assert_eq!(empty_shp.len(), shp.len() + 12 * length);
+            assert_eq!(empty_shx.len(), shx.len() + 8 * length);
+            for header in [&empty_shp, &empty_shx, &shx] {
+                assert_eq!(kind_and_box(header), kind_and_box(&shp));
+            }
+
+            let plan = Plan::check(&empty_shp, &empty_shx).expect("a pair");
+            assert_eq!(plan.totals(), totals(&empty));
+            assert_eq!(plan.len(), 2 * length);
+            let parts_and_points = (plan.totals().parts, plan.totals().points);
+            let without = totals(&records);
+            assert_eq!(parts_and_points, (without.parts, without.points));
+            assert_eq!(read_all(&plan), empty);
+
+            let mut at = 100;
+            for (k, record) in (1..).zip(&empty) {
+                let entry = read_index_entry(&empty_shx[100 + 8 * (k - 1)..]).unwrap();
+                assert_eq!(entry.offset.in_bytes().0 as usize, at);
+                if *record == Record::Null {
+                    assert_eq!(entry.content_length, Words(2));
+                    let number = (k as i32).to_be_bytes();
+                    let bytes = [&number[..], &[0, 0, 0, 2], &[0; 4]].concat();
+                    assert_eq!(empty_shp[at..at + 12], bytes);
+                }
+                at += 8 + entry.content_length.in_bytes().0 as usize;
+            }
+            assert_eq!(at, empty_shp.len());
+        }
+    }
+}
+
 #[test]
 fn a_record_is_found_by_its_number_from_1() {
     let mut random = Random::new(7);
-    let records: Vec<Record> = (0..5).map(|_| record(13, &mut random)).collect();
+    let mut records: Vec<Record> = (0..5).map(|_| record(13, &mut random)).collect();
+    records[2] = Record::Null;
     let (shp, shx) = written(&records);
     let plan = Plan::check(&shp, &shx).unwrap();
     for k in [5, 1, 3, 2, 4] {
@@ -47,7 +93,8 @@ fn records<'a>((shp, shx): &'a (Vec<u8>, Vec<u8>)) -> Records<'a> {
 #[test]
 fn records_come_from_both_ends_and_are_counted() {
     let mut random = Random::new(8);
-    let all: Vec<Record> = (0..6).map(|_| record(5, &mut random)).collect();
+    let mut all: Vec<Record> = (0..6).map(|_| record(5, &mut random)).collect();
+    all[3] = Record::Null;
     let pair = written(&all);
     let mut left = records(&pair);
     let mut expected = all.iter();

@@ -159,19 +159,23 @@ struct Place<'a> {
     /// The record's first byte.
     at: usize,
     /// The kind that the header of the .shp names.
+    header_kind: i32,
+    /// The kind by which the content is judged: Null where the record says so, else the header's.
     kind: i32,
 }
 
 impl<'a> Place<'a> {
     /// There is no such record where the bytes end before it.
     fn of(record: usize, shp: &'a [u8], shx: &'a [u8]) -> Option<Place<'a>> {
-        let (at, kind) = (behind(record - 1, shp)?, little(shp, 32)?);
+        let (at, header_kind) = (behind(record - 1, shp)?, little(shp, 32)?);
+        let is_null = little(shp, at + 8) == Some(kind::NULL);
         (at < shp.len()).then_some(Place {
             record,
             shp,
             shx,
             at,
-            kind,
+            header_kind,
+            kind: if is_null { kind::NULL } else { header_kind },
         })
     }
 
@@ -233,8 +237,8 @@ impl<'a> Place<'a> {
     }
 
     fn record_kind(&self) -> Option<Broken> {
-        let (found, wanted) = (little(self.shp, self.at + 8)?, self.kind);
-        if found == wanted {
+        let (found, wanted) = (little(self.shp, self.at + 8)?, self.header_kind);
+        if found == wanted || found == kind::NULL {
             return None;
         }
         self.shp(8, Cause::RecordKind { found, wanted })
@@ -367,6 +371,9 @@ impl<'a> Place<'a> {
     // ---- doubles
 
     fn doubles(&self) -> Option<Broken> {
+        if self.kind == kind::NULL {
+            return None;
+        }
         let end = self.at + 8 + usize::try_from(in_bytes(self.words()?)).ok()?;
         let parted = kind::has_parts(self.kind);
         let fields: Box<dyn Iterator<Item = (usize, Double)>> = if parted {

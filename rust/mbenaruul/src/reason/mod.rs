@@ -126,14 +126,15 @@ pub enum Cause {
         /// What the record's header says, in words.
         wanted: i32,
     },
-    /// P12: the record has another kind than the header.
+    /// P12: the record has another kind than the header, and is no Null.
     RecordKind {
         /// The record's kind.
         found: i32,
         /// The header's.
         wanted: i32,
     },
-    /// P13: the content is too short to have counts, or a point has another length than its kind.
+    /// P13: the content is too short to have counts, or a point or a Null has another length than
+    /// its kind.
     FixedLength {
         /// The record's kind.
         kind: i32,

@@ -8,7 +8,7 @@ use mbenaruul::{BBox, Plan, Range, Record, Shape, Totals, Writer};
 use std::fs;
 use std::path::PathBuf;
 
-/// The nine kinds that can be written.
+/// The nine kinds of a file that can be written.
 pub const KINDS: [i32; 9] = [1, 21, 11, 3, 23, 13, 5, 25, 15];
 
 pub fn has_z(kind: i32) -> bool {
@@ -80,6 +80,21 @@ pub fn record(kind: i32, random: &mut Random) -> Record {
     } else {
         Record::Parts(shape(kind, random))
     }
+}
+
+/// So many records of a file of a kind: well-formed ones, and behind the first now and then a Null.
+pub fn records(kind: i32, length: usize, random: &mut Random) -> Vec<Record> {
+    let next = |i| match random.below(4) {
+        0 if i > 0 => Record::Null,
+        _ => record(kind, random),
+    };
+    (0..length).map(next).collect()
+}
+
+/// A copy of the list with a Null behind each record.
+pub fn with_nulls(records: &[Record]) -> Vec<Record> {
+    let and_null = |record: &Record| [record.clone(), Record::Null];
+    records.iter().flat_map(and_null).collect()
 }
 
 fn shape(kind: i32, random: &mut Random) -> Shape {
