@@ -1,14 +1,12 @@
 -- Headers without fault stand in front of both files, and behind them the walk passes over well-formed records up to a place.
-use mathlib.Core.Path.{_≡_, sym, ap, ap₂, _∙_, subst}
+use mathlib.Core.Path.{_≡_, sym, ap₂, _∙_, subst}
 use mathlib.Core.List.{List}
 use Prim.Native.Nat.{ℕ, _*_}
 use native.Mathlib.Nat.{le-refl}
 use native.Mathlib.Omega.{arith}
-use lib.IntN.{pos}
 use lib.ListN.{length, drop}
 use Rattle.format.specs.Bytes.{field}
 use Rattle.format.specs.Encoding.{Box, headerBytes, endFrom}
-use Rattle.format.specs.Kinds.{kindAt}
 use Rattle.format.specs.WellFormed.{AllFinite, BoxFinite}
 use Rattle.format.proofs.ByteLaws.{AllBytes, all-drop}
 use Rattle.format.proofs.KindLaws.{found-code}
