@@ -42,7 +42,7 @@ VARIANTS = [
     ('the .shx is one entry too long', 'writer/src/states.rt', '(50 + 4 * (natural(number) - 1)) as i32', '(50 + 4 * natural(number)) as i32'),
     ('an index entry is 4 words off', 'writer/src/lib.rt', 'record::put_entry(entry, words, w);', 'record::put_entry(entry, Words(words.0 + 4), w);'),
     ('an entry that fills its buffer is refused', 'writer/src/judge.rt', 'if entry < 8 {', 'if entry <= 8 {'),
-    ('the record number stays', 'writer/src/record.rt', 'let number = (natural(state.number) + 1) as i32;', 'let number = natural(state.number) as i32;'),
+    ('the record number stays', 'writer/src/record.rt', 'let next = natural(number) + 1;', 'let next = natural(number);'),
     ('f64_min with its arguments exchanged', 'writer/src/boxes.rt', 'if fields::below(a, b) { a } else { b }', 'if fields::below(b, a) { b } else { a }'),
 ]
 

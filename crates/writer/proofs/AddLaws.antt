@@ -1,6 +1,6 @@
 -- Laws of adding a record that passed every test: what its writers ask, and that what they leave is what document 01 says.
 use mathlib.Core.Path.{_≡_, refl, sym, ap, _∙_, subst}
-use mathlib.Core.Bool.{true, cond}
+use mathlib.Core.Bool.{true}
 use mathlib.Core.List.{List}
 use Prim.Native.Nat.{ℕ, _+_, _*_, _-_, _^_, _≤_, _<_}
 use native.Mathlib.Omega.{arith}
@@ -21,10 +21,9 @@ use Rattle.format.proofs.LengthLaws.{Flags, form-flags}
 use Rattle.writer.specs.declared.State.{State}
 use Rattle.writer.specs.declared.AddAnswer.{AddAnswer}
 use Rattle.writer.specs.declared.AddAnswer.the-variants.{Added, Size, Unknown, NotTaken, Mismatch, Tables, Long, Room}
-use Rattle.writer.specs.Adding.{Lent, lentShape, recordSize, recordOf, entryOf, heldBox, kindThen, boxThen, nextState, saidAdd, Adds}
-use Rattle.writer.specs.Boxes.{grown}
+use Rattle.writer.specs.Adding.{Lent, lentShape, recordSize, recordOf, entryOf, kindThen, boxThen, nextState, saidAdd, Adds}
+use Rattle.writer.specs.Judging.{naturalOf, wordsOf, Whole, isRefused, formBy, shapeBy, wordsBy, AllPassed, AllRefused, Ready, kindBy, boxBy, nextBy}
 use Rattle.writer.specs.State.{isZero}
-use Rattle.writer.specs.Judging.{naturalOf, wordsOf, Whole, isRefused, formBy, shapeBy, wordsBy, AllPassed, AllRefused, Ready, boxBy, nextBy}
 use Rattle.writer.proofs.LengthLaws.{whole-bytes}
 use Rattle.writer.proofs.ShapeLaws.{lent-kind, lent-form, shape-is, words-are}
 use Rattle.writer.proofs.StateLaws.{Fine, fine, number-natural}
@@ -87,17 +86,17 @@ module _ (s : State) (t : Lent) (out start entry : ℕ) (k : Kind) (w after : Wo
   is-zero = ap isZero code
 
   -- the kind and the box, by the form
-  kind-then : (form : Form) → Flags k form → cond (isZero (t .code)) (s .kind) (t .code) ≡ kindThen form s t
+  kind-then : (form : Form) → Flags k form → kindBy s (t .code) ≡ kindThen form s t
   kind-then nothing f = rw (is-zero, f .0)
   kind-then onePoint f = rw (is-zero, f .0)
   kind-then parts f = rw (is-zero, f .0)
 
-  box-then : (form : Form) → Flags k form → cond (isZero (t .code)) (s .bbox) (grown (boxBy k (t .box) (t .xy) (t .zs) (t .ms)) (heldBox s)) ≡ boxThen form s t
+  box-then : (form : Form) → Flags k form → boxBy s (t .code) k (t .box) (t .xy) (t .zs) (t .ms) ≡ boxThen form s t
   box-then nothing f = rw (is-zero, f .0)
   box-then onePoint f = rw (is-zero, f .0, f .1, p .shape .of-code .kind-is)
   box-then parts f = rw (is-zero, f .0, f .1, p .shape .of-code .kind-is)
 
-  pub next-is : nextBy s after (t .code) k (t .box) (t .xy) (t .zs) (t .ms) ≡ nextState s t
+  pub next-is : nextBy (s .number) after (kindBy s (t .code)) (boxBy s (t .code) k (t .box) (t .xy) (t .zs) (t .ms)) ≡ nextState s t
   unfolding nextState
   next-is =
       let form = sym (lent-form t k (p .shape .of-code)) in

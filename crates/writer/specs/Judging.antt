@@ -203,15 +203,16 @@ pub record Ready (k : Kind) (counts : List ℕ) (xy zs ms : List Float) (bytes :
   pub counts-held : countsHeld counts ≡ true
   pub room : 2 * wordsBy k counts ≤ 4 + bytes
 
--- the box that a record other than Null gives to the header
-abbrev pub boxBy : Kind → BBoxZ → List Float → List Float → List Float → BBoxZ
-boxBy k b xy zs ms = flat k (cond (k .parts) b (pointBox xy zs ms))
+-- the kind behind the record
+abbrev pub kindBy : State → ℤ → ℤ
+kindBy s code = cond (isZero code) (s .kind) code
 
-abbrev pub nextBy : State → Words → ℤ → Kind → BBoxZ → List Float → List Float → List Float → State
-nextBy s after code k b xy zs ms =
-    record {
-      words = after;
-      number = pos (naturalOf (s .number) + 1);
-      kind = cond (isZero code) (s .kind) code;
-      bbox = cond (isZero code) (s .bbox) (grown (boxBy k b xy zs ms) (heldBox s));
-    }
+-- the box that a record other than Null gives to the header, and the header's box behind the record
+abbrev pub ownBy : Kind → BBoxZ → List Float → List Float → List Float → BBoxZ
+ownBy k b xy zs ms = flat k (cond (k .parts) b (pointBox xy zs ms))
+
+abbrev pub boxBy : State → ℤ → Kind → BBoxZ → List Float → List Float → List Float → BBoxZ
+boxBy s code k b xy zs ms = cond (isZero code) (s .bbox) (grown (ownBy k b xy zs ms) (heldBox s))
+
+abbrev pub nextBy : ℤ → Words → ℤ → BBoxZ → State
+nextBy number after kind b = record { words = after; number = pos (naturalOf number + 1); kind = kind; bbox = b }

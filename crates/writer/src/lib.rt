@@ -108,11 +108,13 @@ pub fn add_record(
         Judged::Fine(k, w, after, size) => {
             let n = state.number;
             let words = state.words;
+            let kind = record::next_kind(state, code);
+            let bounds = record::next_box(state, code, k, bbox, xy, zs, ms);
             record::put_record(&mut out[start..], n, w, code, k, bbox, counts, xy, zs, ms);
             record::put_entry(entry, words, w);
             Adding {
                 answer: AddAnswer::Added(judge::in_memory(size)),
-                state: record::next_state(state, after, code, k, bbox, xy, zs, ms),
+                state: record::next_state(n, after, kind, bounds),
             }
         }
     }

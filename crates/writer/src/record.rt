@@ -10,7 +10,7 @@ ghost use mir.Val.{ofZ};
 ghost use Rattle.format.specs.Encoding.{shapeBytes, recordBytes, twoBig};
 ghost use Rattle.format.specs.Numbers.{f64sLe};
 ghost use Rattle.writer.specs.Adding.{heldBox};
-ghost use Rattle.writer.specs.Judging.{naturalOf, shapeBy, wordsOf, wordsBy, boxBy, Ready, nextBy};
+ghost use Rattle.writer.specs.Judging.{naturalOf, shapeBy, wordsOf, wordsBy, Ready, kindBy, ownBy, boxBy, nextBy};
 use crate::State;
 use crate::states::natural;
 use format::kinds::Kind;
@@ -103,7 +103,7 @@ pub(crate) fn put_record(
 
 // The box that a record other than Null gives to the header.
 fn own_box(k: Kind, bbox: BBoxZ, xy: &[f64], zs: &[f64], ms: &[f64]) -> BBoxZ
-    ensures { λ r. ⌜ r ≡ boxBy k bbox (now (xy .entry)) (now (zs .entry)) (now (ms .entry)) ⌝ }
+    ensures { λ r. ⌜ r ≡ ownBy k bbox (now (xy .entry)) (now (zs .entry)) (now (ms .entry)) ⌝ }
 {
     if k.parts {
         return crate::boxes::flat_box(k, bbox);
@@ -121,37 +121,42 @@ fn held_box(state: State) -> BBoxZ
     state.bbox
 }
 
-// The state after the record, with which the file has so many words: Null leaves the kind and the box as they were.
-pub(crate) fn next_state(
+// The file's kind behind the record: Null leaves the one that it finds.
+pub(crate) fn next_kind(state: State, code: i32) -> i32
+    ensures { λ r. ⌜ r ≡ kindBy state code ⌝ }
+{
+    if code != 0 { code } else { state.kind }
+}
+
+// The header's box behind the record: Null leaves the one that it finds.
+pub(crate) fn next_box(
     state: State,
-    after: Words,
     code: i32,
     k: Kind,
     bbox: BBoxZ,
     xy: &[f64],
     zs: &[f64],
     ms: &[f64],
-) -> State
-    requires { ⌜ naturalOf (state .number) + 1 < 2 ^ 31 ⌝ }
-    ensures { λ r. ⌜ r ≡ nextBy state after code k bbox (now (xy .entry)) (now (zs .entry)) (now (ms .entry)) ⌝ }
+) -> BBoxZ
+    ensures { λ r. ⌜ r ≡ boxBy state code k bbox (now (xy .entry)) (now (zs .entry)) (now (ms .entry)) ⌝ }
 {
-    let number = (natural(state.number) + 1) as i32;
     if code == 0 {
-        let bounds = state.bbox;
-        return State {
-            words: after,
-            number,
-            kind: state.kind,
-            bbox: bounds,
-        };
+        return state.bbox;
     }
     let own = own_box(k, bbox, xy, zs, ms);
-    let held = held_box(state);
-    let grown = crate::boxes::grow(own, held);
+    crate::boxes::grow(own, held_box(state))
+}
+
+// The state behind the record with this number, with which the file has so many words.
+pub(crate) fn next_state(number: i32, after: Words, kind: i32, bounds: BBoxZ) -> State
+    requires { ⌜ naturalOf number + 1 < 2 ^ 31 ⌝ }
+    ensures { λ r. ⌜ r ≡ nextBy number after kind bounds ⌝ }
+{
+    let next = natural(number) + 1;
     State {
         words: after,
-        number,
-        kind: code,
-        bbox: grown,
+        number: next as i32,
+        kind,
+        bbox: bounds,
     }
 }
