@@ -12,11 +12,11 @@ use mir.Syntax.{w32}
 use mir.Val.{toZ, ofZ}
 use Rattle.format.specs.declared.kinds.Kind.{Kind}
 use Rattle.format.specs.Bytes.{le, be, leBytes, beBytes, field}
-use Rattle.format.specs.Encoding.{Box, doubles, pointBytes, boxBytes, startsFrom, valueBytes, measureBytes, partsBytes, shapeBytes, content, shapeWords, twoBig, recordBytes, recordsFrom, entryBytes, entriesFrom, headerFields, headerBytes, endFrom, shpBytes, shxBytes}
-use Rattle.format.specs.Lengths.{Form, onePoint, given, fixedWords, pointWords, contentWords}
+use Rattle.format.specs.Encoding.{Box, doubles, pointBytes, boxBytes, startsFrom, valueBytes, measureBytes, pointsBytes, multipointBytes, partsBytes, shapeBytes, content, shapeWords, twoBig, recordBytes, recordsFrom, entryBytes, entriesFrom, headerFields, headerBytes, endFrom, shpBytes, shxBytes}
+use Rattle.format.specs.Lengths.{Form, onePoint, manyPoints, isMultipoint, given, fixedWords, pointWords, frontWords, contentWords}
 use Rattle.format.specs.Lengths
 use Rattle.format.specs.Numbers.{big, little, double, beI32, leI32, leF64, i32Be, i32Le, f64Le, f64sLe}
-use Rattle.format.specs.Shapes.{Point, BoxXY, Parts, Shape, null, point, parted, there, partsIn, pointsIn, ownKind}
+use Rattle.format.specs.Shapes.{Point, BoxXY, Measure, Multipoint, Parts, Shape, null, point, multipoint, parted, there, partsIn, pointsIn, ownKind}
 use Rattle.format.specs.WellFormed.{hasRings, leastPoints}
 
 -- ---- bytes
@@ -97,6 +97,26 @@ pub each-point : (z m : Bool) → pointWords onePoint z m ≡ 0
 unfolding pointWords
 each-point z m = refl
 
+pub front-null : (p : ℕ) → frontWords Lengths.nothing p ≡ 2
+unfolding frontWords
+front-null p = refl
+
+pub front-point : (p : ℕ) → frontWords onePoint p ≡ 2
+unfolding frontWords
+front-point p = refl
+
+pub front-many : (p : ℕ) → frontWords manyPoints p ≡ 20
+unfolding frontWords
+front-many p = refl
+
+pub front-parts : (p : ℕ) → frontWords Lengths.parts p ≡ 22 + 2 * p
+unfolding frontWords
+front-parts p = refl
+
+pub multipoint-is : (k : Kind) → isMultipoint k ≡ (eqb (k .code) 8 || eqb (k .code) 18 || eqb (k .code) 28)
+unfolding isMultipoint
+multipoint-is k = refl
+
 -- ---- counts, and what a shape's parts are
 
 pub parts-null : partsIn null ≡ 0
@@ -106,6 +126,10 @@ parts-null = refl
 pub parts-point : (xy : Point) (z m : Option ℕ) → partsIn (point xy z m) ≡ 0
 unfolding partsIn
 parts-point xy z m = refl
+
+pub parts-multipoint : (s : Multipoint) → partsIn (multipoint s) ≡ 0
+unfolding partsIn
+parts-multipoint s = refl
 
 pub parts-parted : (s : Parts) → partsIn (parted s) ≡ length (s .parts)
 unfolding partsIn
@@ -118,6 +142,10 @@ points-null = refl
 pub points-point : (xy : Point) (z m : Option ℕ) → pointsIn (point xy z m) ≡ 1
 unfolding pointsIn
 points-point xy z m = refl
+
+pub points-multipoint : (s : Multipoint) → pointsIn (multipoint s) ≡ length (s .points)
+unfolding pointsIn
+points-multipoint s = refl
 
 pub points-parted : (s : Parts) → pointsIn (parted s) ≡ length (flatten (s .parts))
 unfolding pointsIn
@@ -149,15 +177,21 @@ pub startsFrom-cons : (a : ℕ) (part : List Point) (parts : List (List Point)) 
 unfolding startsFrom
 startsFrom-cons a part parts = refl
 
+pub pointsBytes-is : (ps : List Point) (z m : Option Measure) → pointsBytes ps z m ≡ flatten (map pointBytes ps) ++ (measureBytes z ++ measureBytes m)
+unfolding pointsBytes
+pointsBytes-is ps z m = refl
+
+pub multipointBytes-is : (s : Multipoint) → multipointBytes s ≡ boxBytes (s .box) ++ (little (length (s .points)) ++ pointsBytes (s .points) (s .z) (s .m))
+unfolding multipointBytes
+multipointBytes-is s = refl
+
 pub partsBytes-is : (s : Parts)
     → partsBytes s
     ≡ boxBytes (s .box)
     ++ (little (length (s .parts))
     ++ (little (length (flatten (s .parts)))
     ++ (flatten (map little (startsFrom 0 (s .parts)))
-    ++ (flatten (map pointBytes (flatten (s .parts)))
-    ++ (measureBytes (s .z)
-    ++ measureBytes (s .m))))))
+    ++ pointsBytes (flatten (s .parts)) (s .z) (s .m))))
 unfolding partsBytes
 partsBytes-is s = refl
 
@@ -168,6 +202,10 @@ shape-null = refl
 pub shape-point : (xy : Point) (z m : Option ℕ) → shapeBytes (point xy z m) ≡ pointBytes xy ++ (valueBytes z ++ valueBytes m)
 unfolding shapeBytes
 shape-point xy z m = refl
+
+pub shape-multipoint : (s : Multipoint) → shapeBytes (multipoint s) ≡ multipointBytes s
+unfolding shapeBytes
+shape-multipoint s = refl
 
 pub shape-parted : (s : Parts) → shapeBytes (parted s) ≡ partsBytes s
 unfolding shapeBytes
@@ -180,6 +218,10 @@ content-bytes k s = refl
 pub words-point : (xy : Point) (z m : Option ℕ) → shapeWords (point xy z m) ≡ contentWords onePoint (there z) (there m) 0 1
 unfolding shapeWords
 words-point xy z m = refl
+
+pub words-multipoint : (s : Multipoint) → shapeWords (multipoint s) ≡ contentWords manyPoints (there (s .z)) (there (s .m)) 0 (length (s .points))
+unfolding shapeWords
+words-multipoint s = refl
 
 pub words-parted : (s : Parts) → shapeWords (parted s) ≡ contentWords Lengths.parts (there (s .z)) (there (s .m)) (length (s .parts)) (length (flatten (s .parts)))
 unfolding shapeWords

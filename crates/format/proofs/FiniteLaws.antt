@@ -1,19 +1,18 @@
 -- Doubles that are finite: by the test that code can make on the bits, one whose exponent's field is not all ones; and lists of them.
 use mathlib.Core.Path.{_≡_, refl}
 use mathlib.Core.Bool.{Bool, true, false, cond, not}
-use mathlib.Core.List.{List, [], _∷_, _++_, flatten}
+use mathlib.Core.List.{List, [], _∷_, _++_}
 use mathlib.Core.Option.{Option, none, some}
 use Prim.Native.Nat.{ℕ, zero, suc, _+_, _/_, _%_, _^_}
 use lib.Dec.{eqb, leb}
 use lib.ListN.{length}
 use lib.Ieee.{Float, nan, inf, binary64, prec, low, odd, hid, top, ofFields, ofBits}
-use Rattle.format.specs.declared.kinds.Kind.{Kind}
 use Rattle.format.specs.Numbers.{isFinite, finite}
 use Rattle.format.specs.Bytes.{Fit}
-use Rattle.format.specs.Shapes.{Measure, Parts}
-use Rattle.format.specs.WellFormed.{AllFinite, valueFinite, measureFinite, coordinates, PartsWellFormed}
+use Rattle.format.specs.Shapes.{Point, BoxXY, Measure}
+use Rattle.format.specs.WellFormed.{AllFinite, valueFinite, measureFinite, coordinates, DoublesFinite}
 use Rattle.format.proofs.Doubles.{value, measured, writeIf}
-use Rattle.format.proofs.Laid.{partsDoubles}
+use Rattle.format.proofs.Laid.{boxDoubles, pointsDoubles}
 
 odd-finite : (d : ℕ) (s : Bool) (q k l : ℕ) → isFinite (odd d s q k l) ≡ true
 unfolding odd
@@ -69,27 +68,27 @@ pub finite-measure : (n : ℕ) (o : Option Measure) → measureFinite o → AllF
 finite-measure n none f = tt
 finite-measure n (some r) f = f
 
--- the doubles behind the starts of parts: the points, z and m
-module _ (s : Parts) where
-  abbrev n : ℕ
-  n = length (flatten (s .parts))
+-- the doubles of several points: x and y, z and m
+module _ (b : BoxXY) (ps : List Point) (z m : Option Measure) where
+  abbrev zs : List ℕ
+  zs = writeIf (measured (length ps)) z
 
-  abbrev z : List ℕ
-  z = writeIf (measured n) (s .z)
+  abbrev ms : List ℕ
+  ms = writeIf (measured (length ps)) m
 
-  abbrev m : List ℕ
-  m = writeIf (measured n) (s .m)
+  pub finite-points : DoublesFinite b ps z m → AllFinite (pointsDoubles ps z m)
+  unfolding pointsDoubles
+  finite-points v =
+      finite-append (coordinates ps) (zs ++ ms) (v .points-finite)
+      (finite-append zs ms (finite-measure (length ps) z (v .z-finite)) (finite-measure (length ps) m (v .m-finite)))
 
-  pub finite-parts : (k : Kind) → PartsWellFormed k s → AllFinite (partsDoubles s)
-  unfolding partsDoubles
-  finite-parts k v =
-      finite-append (coordinates (flatten (s .parts))) (z ++ m) (v .points) (finite-append z m (finite-measure n (s .z) (v .z)) (finite-measure n (s .m) (v .m)))
-
-  pub parts-finite : AllFinite (partsDoubles s) → AllFinite (coordinates (flatten (s .parts))) × measureFinite (s .z) × measureFinite (s .m)
-  unfolding partsDoubles
-  parts-finite f =
-      let zm = finite-back (coordinates (flatten (s .parts))) (z ++ m) f in (
-        finite-front (coordinates (flatten (s .parts))) (z ++ m) f,
-        measure-finite n (s .z) (finite-front z m zm),
-        measure-finite n (s .m) (finite-back z m zm),
-      )
+  pub points-finite : AllFinite (boxDoubles b) → AllFinite (pointsDoubles ps z m) → DoublesFinite b ps z m
+  unfolding pointsDoubles
+  points-finite h f =
+      let zm = finite-back (coordinates ps) (zs ++ ms) f in
+      record {
+        box-finite = h;
+        points-finite = finite-front (coordinates ps) (zs ++ ms) f;
+        z-finite = measure-finite (length ps) z (finite-front zs ms zm);
+        m-finite = measure-finite (length ps) m (finite-back zs ms zm);
+      }

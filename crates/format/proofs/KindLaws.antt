@@ -19,7 +19,7 @@ use Rattle.format.specs.declared.kinds.Found.{Found}
 use Rattle.format.specs.declared.kinds.Found.the-variants.{Is, Unknown}
 use Rattle.format.specs.Encoding.{Held}
 use Rattle.format.specs.Kinds.{kinds, rowOf, rowAt, kindAt, saidFound, orUnknown, kindOf, known}
-use Rattle.format.specs.Lengths.{Form, nothing, onePoint, formOf}
+use Rattle.format.specs.Lengths.{Form, nothing, onePoint, manyPoints, isMultipoint, formOf}
 use Rattle.format.specs.Lengths
 use Rattle.format.specs.WellFormed.{hasRings}
 use Rattle.format.specs.Bytes.{le, field}
@@ -75,19 +75,21 @@ abbrev hasParts : Option Form → Bool
 hasParts none = false
 hasParts (some nothing) = false
 hasParts (some onePoint) = false
+hasParts (some manyPoints) = false
 hasParts (some Lengths.parts) = true
 
 abbrev right : Kind → Bool
 right k = ltb (k .code) (2 ^ 31) && (not (hasRings k) || hasParts (formOf k))
 
 table : every right kinds ≡ true
-unfolding kinds hasRings formOf
+unfolding kinds hasRings formOf isMultipoint
 table = refl
 
 parts-of : (o : Option Form) → hasParts o ≡ true → o ≡ some Lengths.parts
 parts-of none e = absurd (let z : _≡_ {A = ℕ} 0 1 = cc in omega arith)
 parts-of (some nothing) e = absurd (let z : _≡_ {A = ℕ} 0 1 = cc in omega arith)
 parts-of (some onePoint) e = absurd (let z : _≡_ {A = ℕ} 0 1 = cc in omega arith)
+parts-of (some manyPoints) e = absurd (let z : _≡_ {A = ℕ} 0 1 = cc in omega arith)
 parts-of (some Lengths.parts) e = refl
 
 module _ (z : ℤ) (k : Kind) (e : kindAt z ≡ some k) where

@@ -10,11 +10,11 @@ use lib.ListN.{length, drop, length-append}
 use lib.Seq.{drop-at}
 use Rattle.format.specs.declared.kinds.Kind.{Kind}
 use Rattle.format.specs.Bytes.{leBytes}
-use Rattle.format.specs.Encoding.{doubles, pointBytes, boxBytes, startsFrom, valueBytes, measureBytes, partsBytes, shapeBytes, content, shapeWords, recordBytes}
-use Rattle.format.specs.Lengths.{nothing, onePoint, fixedWords, pointWords, contentWords}
+use Rattle.format.specs.Encoding.{doubles, pointBytes, boxBytes, startsFrom, valueBytes, measureBytes, pointsBytes, multipointBytes, partsBytes, shapeBytes, content, shapeWords, recordBytes}
+use Rattle.format.specs.Lengths.{nothing, onePoint, severalForm, frontWords, fixedWords, pointWords, contentWords}
 use Rattle.format.specs.Lengths
 use Rattle.format.specs.Numbers.{little, double, leI32}
-use Rattle.format.specs.Shapes.{Point, BoxXY, Measure, Parts, Shape, null, point, parted, there, Covers, PartsOf, OfKind}
+use Rattle.format.specs.Shapes.{Point, BoxXY, Measure, Multipoint, Parts, Shape, null, point, multipoint, parted, there, Covers, MeasuresOf, OfKind}
 use Rattle.format.specs.WellFormed.{coordinates}
 use Rattle.format.proofs.ByteLaws.{length-leBytes}
 use Rattle.format.proofs.NumberLaws.{length-little, length-two}
@@ -40,12 +40,17 @@ point-words false true = refl
 point-words true false = refl
 point-words true true = refl
 
-pub parts-words : (z m : Bool) (p n : ℕ) → contentWords Lengths.parts z m p n ≡ 22 + 2 * p + 4 * count (measured n) n z m
-unfolding contentWords fixedWords pointWords
-parts-words false false p n = omega arith
-parts-words false true p n = omega arith
-parts-words true false p n = omega arith
-parts-words true true p n = omega arith
+-- several points, in p parts or in none: what is in front of them, and their doubles
+pub several-words : (f z m : Bool) (p n : ℕ) → (f ≡ false → p ≡ 0) → contentWords (severalForm f) z m p n ≡ frontWords (severalForm f) p + 4 * count (measured n) n z m
+unfolding contentWords frontWords fixedWords pointWords
+several-words true false false p n h = omega arith
+several-words true false true p n h = omega arith
+several-words true true false p n h = omega arith
+several-words true true true p n h = omega arith
+several-words false false false p n h = omega (arith, h refl)
+several-words false false true p n h = omega (arith, h refl)
+several-words false true false p n h = omega (arith, h refl)
+several-words false true true p n h = omega (arith, h refl)
 
 -- ---- runs
 
@@ -68,16 +73,22 @@ unfolding flatten double doubles
 measure-run n none = refl
 measure-run n (some r) = refl
 
--- the doubles of a point, and those behind the starts of parts
+-- the doubles of a point, and those of several points: x and y of each, then z and m
 abbrev pub pointDoubles : Point → Option ℕ → Option ℕ → List ℕ
 pointDoubles xy z m = all value (xy ∷ []) z m
 
-unfoldable pub partsDoubles : Parts → List ℕ
-partsDoubles s = all (measured (length (flatten (s .parts)))) (flatten (s .parts)) (s .z) (s .m)
+unfoldable pub pointsDoubles : List Point → Option Measure → Option Measure → List ℕ
+pointsDoubles ps z m = all (measured (length ps)) ps z m
 
-pub doubles-are : (s : Parts) → partsDoubles s ≡ all (measured (length (flatten (s .parts)))) (flatten (s .parts)) (s .z) (s .m)
-unfolding partsDoubles
-doubles-are s = refl
+pub doubles-are : (ps : List Point) (z m : Option Measure) → pointsDoubles ps z m ≡ all (measured (length ps)) ps z m
+unfolding pointsDoubles
+doubles-are ps z m = refl
+
+abbrev pub multipointDoubles : Multipoint → List ℕ
+multipointDoubles s = pointsDoubles (s .points) (s .z) (s .m)
+
+abbrev pub partsDoubles : Parts → List ℕ
+partsDoubles s = pointsDoubles (flatten (s .parts)) (s .z) (s .m)
 
 abbrev pub boxDoubles : BoxXY → List ℕ
 boxDoubles b = b .xmin ∷ b .ymin ∷ b .xmax ∷ b .ymax ∷ []
@@ -86,24 +97,30 @@ pub point-laid : (xy : Point) (z m : Option ℕ) → shapeBytes (point xy z m) �
 unfolding shapeBytes pointBytes flatten double
 point-laid xy z m = rw (value-run z, value-run m, run-append 8 (writeIf value z) (writeIf value m), append-assoc)
 
--- of these the points, then z and m
-pub doubles-laid : (s : Parts)
-    → run 8 (partsDoubles s)
-    ≡ run 8 (coordinates (flatten (s .parts)))
-    ++ (run 8 (writeIf (measured (length (flatten (s .parts)))) (s .z)) ++ run 8 (writeIf (measured (length (flatten (s .parts)))) (s .m)))
-unfolding partsDoubles
-doubles-laid s =
-    let n = length (flatten (s .parts)) in
-    rw (← run-append 8 (writeIf (measured n) (s .z)) (writeIf (measured n) (s .m)))
-    (run-append 8 (coordinates (flatten (s .parts))) (writeIf (measured n) (s .z) ++ writeIf (measured n) (s .m)))
+module _ (ps : List Point) (z m : Option Measure) where
+  abbrev n : ℕ
+  n = length ps
+
+  -- of these the points, then z and m
+  pub doubles-laid : run 8 (pointsDoubles ps z m) ≡ run 8 (coordinates ps) ++ (run 8 (writeIf (measured n) z) ++ run 8 (writeIf (measured n) m))
+  unfolding pointsDoubles
+  doubles-laid =
+      rw (← run-append 8 (writeIf (measured n) z) (writeIf (measured n) m))
+      (run-append 8 (coordinates ps) (writeIf (measured n) z ++ writeIf (measured n) m))
+
+  points-laid : pointsBytes ps z m ≡ run 8 (pointsDoubles ps z m)
+  unfolding pointsBytes doubles double
+  points-laid = rw (points-doubles ps, measure-run n z, measure-run n m, doubles-laid)
+
+pub multipoint-laid : (s : Multipoint) → shapeBytes (multipoint s) ≡ run 8 (boxDoubles (s .box)) ++ (leBytes 4 (length (s .points)) ++ run 8 (multipointDoubles s))
+unfolding shapeBytes multipointBytes boxBytes doubles double little
+multipoint-laid s = rw (points-laid (s .points) (s .z) (s .m))
 
 pub parts-laid : (s : Parts)
     → shapeBytes (parted s)
     ≡ run 8 (boxDoubles (s .box)) ++ (leBytes 4 (length (s .parts)) ++ (leBytes 4 (length (flatten (s .parts))) ++ (run 4 (startsFrom 0 (s .parts)) ++ run 8 (partsDoubles s))))
 unfolding shapeBytes partsBytes boxBytes doubles double little
-parts-laid s =
-    let n = length (flatten (s .parts)) in
-    rw (points-doubles (flatten (s .parts)), measure-run n (s .z), measure-run n (s .m), doubles-laid s)
+parts-laid s = rw (points-laid (flatten (s .parts)) (s .z) (s .m))
 
 -- ---- lengths
 
@@ -119,24 +136,26 @@ pub right-covers : (n : ℕ) (o : Option Measure) → RightIf (measured n) o →
 right-covers n none c = tt
 right-covers n (some r) c = c
 
-pub length-doubles : (k : Kind) (s : Parts) → PartsOf k s
-    → length (partsDoubles s) ≡ count (measured (length (flatten (s .parts)))) (length (flatten (s .parts))) (there (s .z)) (there (s .m))
-unfolding partsDoubles
-length-doubles k s o =
-    let n = length (flatten (s .parts)) in
-    length-all (measured n) (flatten (s .parts)) (s .z) (s .m) (covers-right n (s .z) (o .covers-z)) (covers-right n (s .m) (o .covers-m))
+pub length-doubles : (k : Kind) (ps : List Point) (z m : Option Measure) → MeasuresOf k (length ps) z m
+    → length (pointsDoubles ps z m) ≡ count (measured (length ps)) (length ps) (there z) (there m)
+unfolding pointsDoubles
+length-doubles k ps z m o = length-all (measured (length ps)) ps z m (covers-right (length ps) z (o .covers-z)) (covers-right (length ps) m (o .covers-m))
 
 -- a content is as long as its words say
 pub length-shape : (k : Kind) (s : Shape) → OfKind k s → 4 + length (shapeBytes s) ≡ 2 * shapeWords s
-unfolding shapeWords shapeBytes contentWords fixedWords pointWords
+unfolding shapeWords shapeBytes contentWords frontWords fixedWords pointWords
 length-shape k null o = refl
 length-shape k (point xy z m) o =
     rw (point-laid xy z m, length-run 8 (pointDoubles xy z m), length-all value (xy ∷ []) z m (any-right z) (any-right m))
     (omega (arith, point-words (there z) (there m)))
+length-shape k (multipoint s) o =
+    rw (multipoint-laid s)
+    (simp (length-append, length-leBytes, length-run, length-doubles k (s .points) (s .z) (s .m) (o .measures))
+    (omega (arith, several-words false (there (s .z)) (there (s .m)) 0 (length (s .points)) (λ e. refl))))
 length-shape k (parted s) o =
     rw (parts-laid s)
-    (simp (length-append, length-leBytes, length-run, length-startsFrom, length-doubles k s o)
-    (omega (arith, parts-words (there (s .z)) (there (s .m)) (length (s .parts)) (length (flatten (s .parts))))))
+    (simp (length-append, length-leBytes, length-run, length-startsFrom, length-doubles k (flatten (s .parts)) (s .z) (s .m) (o .measures))
+    (omega (arith, several-words true (there (s .z)) (there (s .m)) (length (s .parts)) (length (flatten (s .parts))) (λ e. absurd (let z : _≡_ {A = ℕ} 0 1 = cc in omega arith)))))
 
 pub length-content : (k : Kind) (s : Shape) → OfKind k s → length (content k s) ≡ 2 * shapeWords s
 unfolding content

@@ -22,9 +22,9 @@ use Rattle.format.specs.declared.lengths.Formula.{Formula}
 use Rattle.format.specs.declared.lengths.Lengths.{Lengths}
 use Rattle.format.specs.declared.units.Words.{Words}
 use Rattle.format.specs.Kinds.{nullKind, kinds, rowOf, kindAt}
-use Rattle.format.specs.Lengths.{Form, nothing, onePoint, parts, formOf, fixedWords, pointWords, contentWords, lengthsFor, lengthsOf, saidContent, orNotTaken, lengthsIn, contentOf, formulaWords, saidCounted, counted}
+use Rattle.format.specs.Lengths.{Form, nothing, onePoint, manyPoints, parts, isMultipoint, formOf, severalForm, frontWords, fixedWords, pointWords, contentWords, lengthsFor, lengthsOf, saidContent, orNotTaken, lengthsIn, contentOf, formulaWords, saidCounted, counted}
 use Rattle.format.specs.Said.{Said, gives, unknown, notTaken, long}
-use Rattle.format.specs.Shapes.{Shape, null, point, parted, OfKind, ownKind}
+use Rattle.format.specs.Shapes.{Shape, null, point, multipoint, parted, OfKind, ownKind}
 use Rattle.format.specs.Units.{sameInt}
 use Rattle.format.proofs.KindLaws.{code-is, of-table}
 use Rattle.format.proofs.UnitLaws.{same-no, by-bits}
@@ -39,15 +39,15 @@ contents =
     ∷ row 10 0 10 0
     ∷ row 22 8 22 8
     ∷ row 22 8 22 8
-    ∷ NotTaken (pos 8)
+    ∷ row 20 8 20 8
     ∷ row 18 0 18 0
     ∷ row 30 12 38 16
     ∷ row 30 12 38 16
-    ∷ NotTaken (pos 18)
+    ∷ row 28 12 36 16
     ∷ row 14 0 14 0
     ∷ row 22 8 30 12
     ∷ row 22 8 30 12
-    ∷ NotTaken (pos 28)
+    ∷ row 20 8 28 12
     ∷ NotTaken (pos 31)
     ∷ []
 
@@ -57,7 +57,7 @@ rowSaid k = orNotTaken (pos (k .code)) (lengthsOf k)
 
 -- the table's rule
 table-right : map rowSaid kinds ≡ map saidContent contents
-unfolding contents kinds lengthsOf formOf fixedWords pointWords
+unfolding contents kinds lengthsOf formOf isMultipoint fixedWords pointWords
 table-right = refl
 
 map-in : {A B : Type 0} (f : A → B) (l : List A) (i : ℕ) (a : A) (b : B) → i < length l → getD (map f l) i b ≡ f (getD l i a)
@@ -92,15 +92,17 @@ module _ (k : Kind) where
       go none p q = absurd (let z : _≡_ {A = ℕ} 0 1 = cc in omega arith)
       go (some form) p q = (form, p, cc)
 
-  pub form-by : (form : Form) → formOf k ≡ some form → form ≡ cond (eqb (k .code) 0) nothing (cond (k .parts) parts onePoint)
+  form-by : (form : Form) → formOf k ≡ some form → form ≡ cond (eqb (k .code) 0) nothing (cond (isMultipoint k) manyPoints (cond (k .parts) parts onePoint))
   unfolding formOf
-  form-by form e = go (eqb (k .code) 8 || eqb (k .code) 18 || eqb (k .code) 28 || eqb (k .code) 31) (eqb (k .code) 0) (k .parts) e
+  form-by form e = go (eqb (k .code) 31) (eqb (k .code) 0) (isMultipoint k) (k .parts) e
     where
-      go : (u z p : Bool) → cond u none (cond z (some nothing) (cond p (some parts) (some onePoint))) ≡ some form → form ≡ cond z nothing (cond p parts onePoint)
-      go true z p e = absurd (let q : _≡_ {A = ℕ} 0 1 = cc in omega arith)
-      go false true p e = cc
-      go false false true e = cc
-      go false false false e = cc
+      go : (u z m p : Bool) → cond u none (cond z (some nothing) (cond m (some manyPoints) (cond p (some parts) (some onePoint)))) ≡ some form
+          → form ≡ cond z nothing (cond m manyPoints (cond p parts onePoint))
+      go true z m p e = absurd (let q : _≡_ {A = ℕ} 0 1 = cc in omega arith)
+      go false true m p e = cc
+      go false false true p e = cc
+      go false false false true e = cc
+      go false false false false e = cc
 
   -- as the table beside the kinds says it
   module _ (z : ℤ) (e : kindAt z ≡ some k) (c : Content) (f : saidContent c ≡ contentOf z) where
@@ -148,24 +150,35 @@ module _ (z : ℤ) (c : Content) (f : saidContent c ≡ contentOf z) where
 
 -- ---- what a kind's form says of its code and its parts
 
-abbrev pub Flags : Kind → Form → Type 0
-Flags k nothing = (eqb (k .code) 0 ≡ true) × (k .parts ≡ false)
-Flags k onePoint = (eqb (k .code) 0 ≡ false) × (k .parts ≡ false)
-Flags k parts = (eqb (k .code) 0 ≡ false) × (k .parts ≡ true)
+-- the kind has code 0, is a multipoint, and has parts, as these say
+pub record Told (k : Kind) (null many parted : Bool) : Type 0 where
+  pub null-is : eqb (k .code) 0 ≡ null
+  pub many-is : isMultipoint k ≡ many
+  pub parts-is : k .parts ≡ parted
 
--- code 0 has no parts
+abbrev pub Flags : Kind → Form → Type 0
+Flags k nothing = Told k true false false
+Flags k onePoint = Told k false false false
+Flags k manyPoints = Told k false true false
+Flags k parts = Told k false false true
+
+-- no kind is two of them
 abbrev plain : Kind → Bool
-plain k = not (eqb (k .code) 0 && k .parts)
+plain k = not (eqb (k .code) 0 && isMultipoint k) && not (eqb (k .code) 0 && k .parts) && not (isMultipoint k && k .parts)
 
 pub form-flags : (z : ℤ) (k : Kind) (f : Form) → kindAt z ≡ some k → formOf k ≡ some f → Flags k f
-unfolding kinds
-form-flags z k f h e = go (eqb (k .code) 0) (k .parts) refl refl (of-table plain refl z k h) (form-by k f e)
+unfolding kinds isMultipoint
+form-flags z k f h e = go (eqb (k .code) 0) (isMultipoint k) (k .parts) refl refl refl (of-table plain refl z k h) (form-by k f e)
   where
-    go : (n p : Bool) → eqb (k .code) 0 ≡ n → k .parts ≡ p → not (n && p) ≡ true → f ≡ cond n nothing (cond p parts onePoint) → Flags k f
-    go true true a b t e = absurd (let z : _≡_ {A = ℕ} 0 1 = cc in omega arith)
-    go true false a b t e = rw e (a, b)
-    go false true a b t e = rw e (a, b)
-    go false false a b t e = rw e (a, b)
+    go : (n m p : Bool) → eqb (k .code) 0 ≡ n → isMultipoint k ≡ m → k .parts ≡ p → (not (n && m) && not (n && p) && not (m && p)) ≡ true
+        → f ≡ cond n nothing (cond m manyPoints (cond p parts onePoint)) → Flags k f
+    go true true p a b c t e = absurd (let z : _≡_ {A = ℕ} 0 1 = cc in omega arith)
+    go true false true a b c t e = absurd (let z : _≡_ {A = ℕ} 0 1 = cc in omega arith)
+    go true false false a b c t e = rw e (record { null-is = a; many-is = b; parts-is = c })
+    go false true true a b c t e = absurd (let z : _≡_ {A = ℕ} 0 1 = cc in omega arith)
+    go false true false a b c t e = rw e (record { null-is = a; many-is = b; parts-is = c })
+    go false false true a b c t e = rw e (record { null-is = a; many-is = b; parts-is = c })
+    go false false false a b c t e = rw e (record { null-is = a; many-is = b; parts-is = c })
 
 -- Null's kind is the table's, and taken
 pub null-row : kindAt (pos 0) ≡ some nullKind
@@ -185,28 +198,34 @@ null-kind z k e h =
 -- ---- the kind of a shape's own record, in a file of its kind or, where it is Null, of any
 
 pub own-kind : (z : ℤ) (k file : Kind) (s : Shape) → kindAt z ≡ some k → OfKind k s → (eqb (k .code) 0 ≡ false → file ≡ k) → ownKind file s ≡ k
-own-kind z k file null e o same = sym (null-kind z k e (form-flags z k nothing e o .0))
-own-kind z k file (point xy v w) e o same = same (form-flags z k onePoint e (o .form) .0)
-own-kind z k file (parted s) e o same = same (form-flags z k parts e (o .form) .0)
+own-kind z k file null e o same = sym (null-kind z k e (form-flags z k nothing e o .null-is))
+own-kind z k file (point xy v w) e o same = same (form-flags z k onePoint e (o .form) .null-is)
+own-kind z k file (multipoint s) e o same = same (form-flags z k manyPoints e (o .form) .null-is)
+own-kind z k file (parted s) e o same = same (form-flags z k parts e (o .form) .null-is)
 
 -- ---- what a formula comes to
 
 least : (a b c : ℕ) → 2 ≤ a → 2 ≤ a + b + c
 least a b c h = omega arith
 
--- at least the fixed words, the starts, and x and y
-pub least-words : (z m : Bool) (p n : ℕ) → 22 + 2 * p + 8 * n ≤ contentWords parts z m p n
-unfolding contentWords fixedWords pointWords
-least-words true true p n = omega arith
-least-words true false p n = omega arith
-least-words false true p n = omega arith
-least-words false false p n = omega arith
+-- several points take at least the words in front of them, and x and y
+pub least-words : (f z m : Bool) (p n : ℕ) → frontWords (severalForm f) p + 8 * n ≤ contentWords (severalForm f) z m p n
+unfolding contentWords frontWords fixedWords pointWords
+least-words true true true p n = omega arith
+least-words true true false p n = omega arith
+least-words true false true p n = omega arith
+least-words true false false p n = omega arith
+least-words false true true p n = omega arith
+least-words false true false p n = omega arith
+least-words false false true p n = omega arith
+least-words false false false p n = omega arith
 
 -- the kind's field at least
 pub some-words : (f : Form) (z m : Bool) (p n : ℕ) → 2 ≤ contentWords f z m p n
 unfolding contentWords fixedWords
 some-words nothing z m p n = least _ _ _ (omega arith)
 some-words onePoint z m p n = least _ _ _ (omega arith)
+some-words manyPoints z m p n = least _ _ _ (omega arith)
 some-words parts z m p n = least _ _ _ (omega arith)
 
 module _ (f : Formula) (p n : ℕ) (c : Counted) (e : saidCounted c ≡ counted f p n) where

@@ -9,7 +9,7 @@ use Rattle.format.specs.declared.kinds.Kind.{Kind}
 use Rattle.format.specs.Bytes.{le, be, field}
 use Rattle.format.specs.Encoding.{shapeBytes, shapeWords, content, twoBig, recordBytes, recordsFrom, entriesFrom, entryBytes, endFrom, Held, HeldFrom}
 use Rattle.format.specs.Numbers.{big, little}
-use Rattle.format.specs.Shapes.{Shape, null, point, parted, ownKind}
+use Rattle.format.specs.Shapes.{Shape, null, point, multipoint, parted, ownKind}
 use Rattle.format.proofs.ByteLaws.{AllBytes}
 use Rattle.format.proofs.LengthLaws.{some-words}
 use Rattle.format.proofs.NumberLaws.{length-big, length-little, length-two}
@@ -63,6 +63,7 @@ pub shape-least : (s : Shape) → 2 ≤ shapeWords s
 unfolding shapeWords
 shape-least null = some-words _ _ _ _ _
 shape-least (point xy z m) = some-words _ _ _ _ _
+shape-least (multipoint s) = some-words _ _ _ _ _
 shape-least (parted s) = some-words _ _ _ _ _
 
 -- ---- the entries of a list of shapes

@@ -6,10 +6,10 @@ use mathlib.Core.Option.{Option, none, some}
 use Prim.Native.Nat.{ℕ, _+_, _*_, _^_, _<_}
 use lib.ListN.{length, replicate}
 use Rattle.format.specs.declared.kinds.Kind.{Kind}
-use Rattle.format.specs.Lengths.{nothing, onePoint, contentWords}
+use Rattle.format.specs.Lengths.{nothing, onePoint, manyPoints, contentWords}
 use Rattle.format.specs.Lengths
 use Rattle.format.specs.Numbers.{big, little, double}
-use Rattle.format.specs.Shapes.{Point, BoxXY, Measure, Parts, Shape, null, point, parted, partsIn, pointsIn, there, ownKind}
+use Rattle.format.specs.Shapes.{Point, BoxXY, Measure, Multipoint, Parts, Shape, null, point, multipoint, parted, partsIn, pointsIn, there, ownKind}
 
 -- ---- a shape's content
 
@@ -35,20 +35,26 @@ abbrev pub measureBytes : Option Measure → List ℕ
 measureBytes none = []
 measureBytes (some r) = double (r .low) ++ (double (r .high) ++ doubles (r .values))
 
+-- the points, then z, then m
+unfoldable pub pointsBytes : List Point → Option Measure → Option Measure → List ℕ
+pointsBytes ps z m = flatten (map pointBytes ps) ++ (measureBytes z ++ measureBytes m)
+
+unfoldable pub multipointBytes : Multipoint → List ℕ
+multipointBytes s = boxBytes (s .box) ++ (little (length (s .points)) ++ pointsBytes (s .points) (s .z) (s .m))
+
 unfoldable pub partsBytes : Parts → List ℕ
 partsBytes s =
     boxBytes (s .box)
     ++ (little (length (s .parts))
     ++ (little (length (flatten (s .parts)))
     ++ (flatten (map little (startsFrom 0 (s .parts)))
-    ++ (flatten (map pointBytes (flatten (s .parts)))
-    ++ (measureBytes (s .z)
-    ++ measureBytes (s .m))))))
+    ++ pointsBytes (flatten (s .parts)) (s .z) (s .m))))
 
 -- what follows the kind's field
 unfoldable pub shapeBytes : Shape → List ℕ
 shapeBytes null = []
 shapeBytes (point xy z m) = pointBytes xy ++ (valueBytes z ++ valueBytes m)
+shapeBytes (multipoint s) = multipointBytes s
 shapeBytes (parted s) = partsBytes s
 
 unfoldable pub content : Kind → Shape → List ℕ
@@ -58,6 +64,7 @@ content k s = little (k .code) ++ shapeBytes s
 unfoldable pub shapeWords : Shape → ℕ
 shapeWords null = contentWords nothing false false 0 0
 shapeWords (point xy z m) = contentWords onePoint (there z) (there m) 0 1
+shapeWords (multipoint s) = contentWords manyPoints (there (s .z)) (there (s .m)) 0 (length (s .points))
 shapeWords (parted s) = contentWords Lengths.parts (there (s .z)) (there (s .m)) (length (s .parts)) (length (flatten (s .parts)))
 
 -- ---- records and index entries

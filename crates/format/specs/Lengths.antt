@@ -17,18 +17,24 @@ use Rattle.format.specs.Kinds.{kindAt}
 use Rattle.format.specs.Order.{first}
 use Rattle.format.specs.Said.{Said, gives, unknown, notTaken, long}
 
--- what a content holds beside the kind's field: nothing, one point, or parts of points
+-- what a content holds beside the kind's field: nothing, one point, any number of points, or parts of points
 pub data Form : Type 0 where
   nothing : Form
   onePoint : Form
+  manyPoints : Form
   parts : Form
 
--- 8, 18, 28 and 31 are not taken yet
+-- 8, 18 and 28 are multipoints
+unfoldable pub isMultipoint : Kind → Bool
+isMultipoint k = eqb (k .code) 8 || eqb (k .code) 18 || eqb (k .code) 28
+
+-- 31 is not taken
 unfoldable pub formOf : Kind → Option Form
 formOf k =
-    cond (eqb (k .code) 8 || eqb (k .code) 18 || eqb (k .code) 28 || eqb (k .code) 31) none
+    cond (eqb (k .code) 31) none
     (cond (eqb (k .code) 0) (some nothing)
-    (cond (k .parts) (some parts) (some onePoint)))
+    (cond (isMultipoint k) (some manyPoints)
+    (cond (k .parts) (some parts) (some onePoint))))
 
 -- the form of the kind with this code
 abbrev pub formIn : Option Kind → Option Form
@@ -42,27 +48,43 @@ formAt z = formIn (kindAt z)
 abbrev pub given : Bool → ℕ → ℕ
 given flag words = cond flag words 0
 
--- The words that do not depend on the counts. The kind's field takes 2 and a double 4; parts have a box of four doubles and two counts, and
--- with z, and with m, a range of two doubles.
+-- The words that do not depend on the counts. The kind's field takes 2 and a double 4; a multipoint has a box of four doubles and the number of
+-- its points, parts have a box and two counts, and both have with z, and with m, a range of two doubles.
 unfoldable pub fixedWords : Form → Bool → Bool → ℕ
 fixedWords nothing z m = 2
 fixedWords onePoint z m = 10 + given z 4 + given m 4
+fixedWords manyPoints z m = 20 + given z 8 + given m 8
 fixedWords parts z m = 22 + given z 8 + given m 8
 
--- and those that each point of the parts takes: x, y, z and m
+-- and those that each of their points takes: x, y, z and m
 unfoldable pub pointWords : Form → Bool → Bool → ℕ
 pointWords nothing z m = 0
 pointWords onePoint z m = 0
+pointWords manyPoints z m = 8 + given z 4 + given m 4
 pointWords parts z m = 8 + given z 4 + given m 4
+
+-- the form of several points: in parts, where the flag is set
+abbrev pub severalForm : Bool → Form
+severalForm true = parts
+severalForm false = manyPoints
+
+-- The words in front of the points, with p parts: the kind's field; of several points also the box and their number; and of parts the number of
+-- parts and a start for each.
+unfoldable pub frontWords : Form → ℕ → ℕ
+frontWords nothing p = 2
+frontWords onePoint p = 2
+frontWords manyPoints p = 20
+frontWords parts p = 22 + 2 * p
 
 -- the content's length with p parts, of which each has a start, and n points
 unfoldable pub contentWords : Form → Bool → Bool → ℕ → ℕ → ℕ
 contentWords form z m p n = fixedWords form z m + 2 * p + pointWords form z m * n
 
--- parts may lack the m that their kind has
+-- multipoints and parts may lack the m that their kind has
 abbrev pub mayLackM : Form → Bool
 mayLackM nothing = false
 mayLackM onePoint = false
+mayLackM manyPoints = true
 mayLackM parts = true
 
 abbrev pub formula : Form → Bool → Bool → Formula

@@ -10,7 +10,7 @@ use lib.ListN.{length}
 use Rattle.format.specs.declared.kinds.Kind.{Kind}
 use Rattle.format.specs.Encoding.{Box, boxDoubles}
 use Rattle.format.specs.Numbers.{finite}
-use Rattle.format.specs.Shapes.{Point, Measure, Parts, Shape, null, point, parted}
+use Rattle.format.specs.Shapes.{Point, BoxXY, Measure, Multipoint, Parts, Shape, null, point, multipoint, parted}
 
 -- the parts of 5, 15 and 25 are rings
 unfoldable pub hasRings : Kind → Bool
@@ -56,6 +56,18 @@ abbrev pub measureFinite : Option Measure → Type 0
 measureFinite none = Unit {0}
 measureFinite (some r) = AllFinite (r .low ∷ r .high ∷ r .values)
 
+-- the doubles of a multipoint or of a shape with parts: its box, its points, z and m
+pub record DoublesFinite (b : BoxXY) (ps : List Point) (z m : Option Measure) : Type 0 where
+  pub box-finite : AllFinite (b .xmin ∷ b .ymin ∷ b .xmax ∷ b .ymax ∷ [])
+  pub points-finite : AllFinite (coordinates ps)
+  pub z-finite : measureFinite z
+  pub m-finite : measureFinite m
+
+-- P14: a multipoint has at least 1 point
+pub record MultipointWellFormed (s : Multipoint) : Type 0 where
+  pub some-point : 1 ≤ length (s .points)
+  pub doubles : DoublesFinite (s .box) (s .points) (s .z) (s .m)
+
 -- every part of a shape with parts
 abbrev pub PartsFine : Kind → List (List Point) → Type 0
 PartsFine k [] = Unit {0}
@@ -64,10 +76,7 @@ PartsFine k (part ∷ parts) = (leastPoints k ≤ length part) × (hasRings k �
 pub record PartsWellFormed (k : Kind) (s : Parts) : Type 0 where
   pub some-part : 1 ≤ length (s .parts)
   pub each-part : PartsFine k (s .parts)
-  pub box : AllFinite (s .box .xmin ∷ s .box .ymin ∷ s .box .xmax ∷ s .box .ymax ∷ [])
-  pub points : AllFinite (coordinates (flatten (s .parts)))
-  pub z : measureFinite (s .z)
-  pub m : measureFinite (s .m)
+  pub doubles : DoublesFinite (s .box) (flatten (s .parts)) (s .z) (s .m)
 
 pub record PointWellFormed (xy : Point) (z m : Option ℕ) : Type 0 where
   pub x-finite : Finite (xy .x)
@@ -78,6 +87,7 @@ pub record PointWellFormed (xy : Point) (z m : Option ℕ) : Type 0 where
 abbrev pub WellFormed : Kind → Shape → Type 0
 WellFormed k null = Unit {0}
 WellFormed k (point xy z m) = PointWellFormed xy z m
+WellFormed k (multipoint s) = MultipointWellFormed s
 WellFormed k (parted s) = PartsWellFormed k s
 
 -- P6: the header's box is finite

@@ -1,8 +1,9 @@
 // The length of a shape's content in words, for the kinds that are taken: the fixed words and the words for each point.
 ghost use mathlib.Core.Path.{_≡_};
 ghost use lib.IntN.{pos};
-ghost use Rattle.format.specs.Lengths.{saidContent, contentOf, formulaWords, saidCounted, counted};
+ghost use Rattle.format.specs.Lengths.{isMultipoint, saidContent, contentOf, formulaWords, saidCounted, counted};
 ghost use Rattle.format.specs.Units.{sameInt};
+use crate::kinds::Kind;
 use crate::kinds::row_of;
 use crate::units::Words;
 
@@ -72,7 +73,16 @@ const CONTENTS: [Content; 14] = [
         },
     }),
     // 8 Multipoint
-    Content::NotTaken(8),
+    Content::Taken(Lengths {
+        without: Formula {
+            fixed: 20,
+            point: 8,
+        },
+        with: Formula {
+            fixed: 20,
+            point: 8,
+        },
+    }),
     // 11 PointZ
     Content::Taken(Lengths {
         without: Formula {
@@ -107,7 +117,16 @@ const CONTENTS: [Content; 14] = [
         },
     }),
     // 18 MultipointZ
-    Content::NotTaken(18),
+    Content::Taken(Lengths {
+        without: Formula {
+            fixed: 28,
+            point: 12,
+        },
+        with: Formula {
+            fixed: 36,
+            point: 16,
+        },
+    }),
     // 21 PointM
     Content::Taken(Lengths {
         without: Formula {
@@ -142,10 +161,30 @@ const CONTENTS: [Content; 14] = [
         },
     }),
     // 28 MultipointM
-    Content::NotTaken(28),
+    Content::Taken(Lengths {
+        without: Formula {
+            fixed: 20,
+            point: 8,
+        },
+        with: Formula {
+            fixed: 28,
+            point: 12,
+        },
+    }),
     // 31 Multipatch
     Content::NotTaken(31),
 ];
+
+// 8, 18 and 28 are multipoints.
+pub fn is_multipoint(k: Kind) -> bool
+    ensures { λ r. ⌜ r ≡ isMultipoint k ⌝ }
+{
+    let code = k.code;
+    match code {
+        8 | 18 | 28 => true,
+        _ => false,
+    }
+}
 
 // The formulas of the kind with this code.
 pub fn lengths_of(code: i32) -> Content
