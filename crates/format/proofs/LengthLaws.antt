@@ -1,5 +1,5 @@
 -- Laws of content lengths and of a kind's form. The constant table beside the kinds holds each kind's formulas: one computed test over the whole table.
-use mathlib.Core.Path.{_≡_, refl, sym, ap, _∙_, subst}
+use mathlib.Core.Path.{_≡_, refl, sym, ap, ap₂, _∙_, subst}
 use mathlib.Core.Bool.{Bool, true, false, cond, _&&_, _||_, not}
 use mathlib.Core.List.{List, [], _∷_, map}
 use mathlib.Core.Option.{Option, none, some, Option·map}
@@ -22,7 +22,7 @@ use Rattle.format.specs.declared.lengths.Formula.{Formula}
 use Rattle.format.specs.declared.lengths.Lengths.{Lengths}
 use Rattle.format.specs.declared.units.Words.{Words}
 use Rattle.format.specs.Kinds.{nullKind, kinds, rowOf, kindAt}
-use Rattle.format.specs.Lengths.{Form, nothing, onePoint, manyPoints, parts, isMultipoint, formOf, severalForm, frontWords, fixedWords, pointWords, contentWords, lengthsFor, lengthsOf, saidContent, orNotTaken, lengthsIn, contentOf, formulaWords, saidCounted, counted}
+use Rattle.format.specs.Lengths.{Form, nothing, onePoint, manyPoints, parts, isMultipoint, hasSeveral, formOf, several, severalForm, frontWords, fixedWords, pointWords, contentWords, lengthsFor, lengthsOf, saidContent, orNotTaken, lengthsIn, contentOf, formulaWords, saidCounted, counted}
 use Rattle.format.specs.Said.{Said, gives, unknown, notTaken, long}
 use Rattle.format.specs.Shapes.{Shape, null, point, multipoint, parted, OfKind, ownKind}
 use Rattle.format.specs.Units.{sameInt}
@@ -179,6 +179,13 @@ form-flags z k f h e = go (eqb (k .code) 0) (isMultipoint k) (k .parts) refl ref
     go false true false a b c t e = rw e (record { null-is = a; many-is = b; parts-is = c })
     go false false true a b c t e = rw e (record { null-is = a; many-is = b; parts-is = c })
     go false false false a b c t e = rw e (record { null-is = a; many-is = b; parts-is = c })
+
+-- a kind has several points where its form has
+pub form-several : (k : Kind) (f : Form) → Flags k f → hasSeveral k ≡ several f
+form-several k nothing t = ap₂ _||_ (t .parts-is) (t .many-is)
+form-several k onePoint t = ap₂ _||_ (t .parts-is) (t .many-is)
+form-several k manyPoints t = ap₂ _||_ (t .parts-is) (t .many-is)
+form-several k parts t = ap₂ _||_ (t .parts-is) (t .many-is)
 
 -- Null's kind is the table's, and taken
 pub null-row : kindAt (pos 0) ≡ some nullKind

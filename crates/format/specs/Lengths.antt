@@ -28,6 +28,10 @@ pub data Form : Type 0 where
 unfoldable pub isMultipoint : Kind → Bool
 isMultipoint k = eqb (k .code) 8 || eqb (k .code) 18 || eqb (k .code) 28
 
+-- a kind with several points has parts, or is a multipoint
+abbrev pub hasSeveral : Kind → Bool
+hasSeveral k = k .parts || isMultipoint k
+
 -- 31 is not taken
 unfoldable pub formOf : Kind → Option Form
 formOf k =
@@ -63,7 +67,14 @@ pointWords onePoint z m = 0
 pointWords manyPoints z m = 8 + given z 4 + given m 4
 pointWords parts z m = 8 + given z 4 + given m 4
 
--- the form of several points: in parts, where the flag is set
+-- several points, which have a box and their number in front of them
+abbrev pub several : Form → Bool
+several nothing = false
+several onePoint = false
+several manyPoints = true
+several parts = true
+
+-- their form: in parts, where the flag is set
 abbrev pub severalForm : Bool → Form
 severalForm true = parts
 severalForm false = manyPoints
@@ -80,12 +91,9 @@ frontWords parts p = 22 + 2 * p
 unfoldable pub contentWords : Form → Bool → Bool → ℕ → ℕ → ℕ
 contentWords form z m p n = fixedWords form z m + 2 * p + pointWords form z m * n
 
--- multipoints and parts may lack the m that their kind has
+-- several points may lack the m that their kind has
 abbrev pub mayLackM : Form → Bool
-mayLackM nothing = false
-mayLackM onePoint = false
-mayLackM manyPoints = true
-mayLackM parts = true
+mayLackM form = several form
 
 abbrev pub formula : Form → Bool → Bool → Formula
 formula form z m = record { fixed = fixedWords form z m; point = pointWords form z m }

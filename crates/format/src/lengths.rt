@@ -1,7 +1,7 @@
 // The length of a shape's content in words, for the kinds that are taken: the fixed words and the words for each point.
 ghost use mathlib.Core.Path.{_≡_};
 ghost use lib.IntN.{pos};
-ghost use Rattle.format.specs.Lengths.{isMultipoint, saidContent, contentOf, formulaWords, saidCounted, counted};
+ghost use Rattle.format.specs.Lengths.{isMultipoint, hasSeveral, saidContent, contentOf, formulaWords, saidCounted, counted};
 ghost use Rattle.format.specs.Units.{sameInt};
 use crate::kinds::Kind;
 use crate::kinds::row_of;
@@ -176,7 +176,7 @@ const CONTENTS: [Content; 14] = [
 ];
 
 // 8, 18 and 28 are multipoints.
-pub fn is_multipoint(k: Kind) -> bool
+fn is_multipoint(k: Kind) -> bool
     ensures { λ r. ⌜ r ≡ isMultipoint k ⌝ }
 {
     let code = k.code;
@@ -184,6 +184,16 @@ pub fn is_multipoint(k: Kind) -> bool
         8 | 18 | 28 => true,
         _ => false,
     }
+}
+
+// Whether a kind has several points, in parts or as a multipoint.
+pub fn has_several(k: Kind) -> bool
+    ensures { λ r. ⌜ r ≡ hasSeveral k ⌝ }
+{
+    if k.parts {
+        return true;
+    }
+    is_multipoint(k)
 }
 
 // The formulas of the kind with this code.

@@ -1,14 +1,15 @@
 -- What the steps of writing a body come to, of the tables as the code has them: the private functions cite these.
 use mathlib.Core.Path.{_≡_}
-use mathlib.Core.Bool.{Bool, cond}
+use mathlib.Core.Bool.{Bool, true, false, cond, _||_}
 use mathlib.Core.List.{List, [], _∷_, _++_}
 use Prim.Native.Nat.{ℕ, _+_, _*_, _^_, _≤_, _<_}
+use lib.Dec.{eqb}
 use lib.Ieee.{Float}
 use lib.ListN.{length}
 use Rattle.format.specs.Numbers.{little, f64sLe}
-use Rattle.format.specs.Shapes.{sum}
 use Rattle.header.specs.declared.bbox.BBoxZ.{BBoxZ}
-use Rattle.layouts.specs.Answers.{bodySize}
+use Rattle.layouts.specs.Answers.{lentSize}
+use Rattle.layouts.specs.Tables.{pointsLent}
 
 -- the bytes of a range and n values, where the layout has them
 abbrev pub measureSize : Bool → ℕ → ℕ
@@ -22,9 +23,18 @@ startsBytes a (n ∷ ns) = little a ++ startsBytes (a + n) ns
 abbrev pub corners : BBoxZ → List Float
 corners b = b .xmin ∷ b .ymin ∷ b .xmax ∷ b .ymax ∷ []
 
--- box, counts and starts, of n points
-unfoldable pub frontBytes : BBoxZ → List ℕ → ℕ → List ℕ
-frontBytes b counts n = f64sLe (corners b) ++ (little (length counts) ++ (little n ++ startsBytes 0 counts))
+-- the counts and starts, of n points; a multipoint has n alone
+unfoldable pub countsBytes : Bool → List ℕ → ℕ → List ℕ
+countsBytes true counts n = little (length counts) ++ (little n ++ startsBytes 0 counts)
+countsBytes false counts n = little n
+
+-- the box in front of them
+unfoldable pub frontBytes : Bool → BBoxZ → List ℕ → ℕ → List ℕ
+frontBytes parts b counts n = f64sLe (corners b) ++ countsBytes parts counts n
+
+-- and the bytes that they take, with p parts
+abbrev pub frontSize : Bool → ℕ → ℕ
+frontSize parts p = cond parts (40 + 4 * p) 36
 
 -- the tables agree on n points
 pub record Agreed (z m : Bool) (n : ℕ) (xy zs ms : List Float) : Type 0 where
@@ -33,7 +43,8 @@ pub record Agreed (z m : Bool) (n : ℕ) (xy zs ms : List Float) : Type 0 where
   pub ms-has : length ms ≡ cond m n 0
 
 -- and an i32 holds the points, and there is room for the body
-pub record Placed (z m : Bool) (counts : List ℕ) (xy zs ms : List Float) (room : ℕ) : Type 0 where
-  pub agreed : Agreed z m (sum counts) xy zs ms
-  pub held : sum counts < 2 ^ 31
-  pub fits : bodySize z m (length counts) (sum counts) ≤ room
+pub record Placed (parts z m : Bool) (counts : List ℕ) (xy zs ms : List Float) (room : ℕ) : Type 0 where
+  pub counts-fit : (parts || eqb (length counts) 0) ≡ true
+  pub agreed : Agreed z m (pointsLent parts counts xy) xy zs ms
+  pub held : pointsLent parts counts xy < 2 ^ 31
+  pub fits : lentSize parts z m counts xy ≤ room

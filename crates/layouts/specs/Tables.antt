@@ -1,11 +1,12 @@
--- The shape that lent tables describe: part counts, and x y x y .., z and m as flat lists of doubles; the box and the ranges as given.
-use mathlib.Core.Bool.{Bool, true, false}
+-- The shape of several points that lent tables describe: part counts, and x y x y .., z and m as flat lists of doubles; the box and the ranges as
+-- given.
+use mathlib.Core.Bool.{Bool, true, false, cond}
 use mathlib.Core.List.{List, [], _∷_, map}
 use mathlib.Core.Option.{Option, none, some}
-use Prim.Native.Nat.{ℕ}
+use Prim.Native.Nat.{ℕ, _/_}
 use lib.Ieee.{Float, binary64, toBits}
-use lib.ListN.{take, drop}
-use Rattle.format.specs.Shapes.{Point, BoxXY, Measure, Parts}
+use lib.ListN.{length, take, drop}
+use Rattle.format.specs.Shapes.{Point, BoxXY, Measure, Multipoint, Parts, Shape, multipoint, parted, sum}
 use Rattle.header.specs.declared.bbox.BBoxZ.{BBoxZ}
 
 abbrev pub bits : Float → ℕ
@@ -38,3 +39,22 @@ partsOf z m b counts xy zs ms =
       z = measureOf z (b .zmin) (b .zmax) zs;
       m = measureOf m (b .mmin) (b .mmax) ms;
     }
+
+-- the multipoint: every pair of xy is one of its points
+unfoldable pub multipointOf : Bool → Bool → BBoxZ → List Float → List Float → List Float → Multipoint
+multipointOf z m b xy zs ms =
+    record {
+      box = boxOf b;
+      points = pointsOf xy;
+      z = measureOf z (b .zmin) (b .zmax) zs;
+      m = measureOf m (b .mmin) (b .mmax) ms;
+    }
+
+-- with parts, or a multipoint
+abbrev pub severalOf : Bool → Bool → Bool → BBoxZ → List ℕ → List Float → List Float → List Float → Shape
+severalOf true z m b counts xy zs ms = parted (partsOf z m b counts xy zs ms)
+severalOf false z m b counts xy zs ms = multipoint (multipointOf z m b xy zs ms)
+
+-- how many points it has: n is the sum of the part counts, or as many as xy has pairs
+abbrev pub pointsLent : Bool → List ℕ → List Float → ℕ
+pointsLent parts counts xy = cond parts (sum counts) (length xy / 2)

@@ -6,7 +6,7 @@ ghost use lib.Dec.{eqb};
 ghost use lib.ListN.{length};
 ghost use Rattle.format.specs.Shapes.{sum};
 ghost use Rattle.layouts.specs.Answers.{saidLayout, layoutOf};
-ghost use Rattle.layouts.specs.Steps.{measureSize};
+ghost use Rattle.layouts.specs.Steps.{measureSize, frontSize};
 use crate::LayoutAnswer;
 
 // Whether the counts sum to n. The sum stops where it would pass n.
@@ -24,6 +24,17 @@ fn sums_to(counts: &[u32], n: usize) -> bool
         i += 1;
     }
     left == 0
+}
+
+// Whether the part counts are those of n points; a multipoint has none.
+fn counted(parts: bool, counts: &[u32], n: usize) -> bool
+    ensures { λ r. ⌜ r ≡ cond parts (eqb n (sum (now (counts .entry)))) (eqb (length (now (counts .entry))) 0) ⌝ }
+{
+    if parts {
+        sums_to(counts, n)
+    } else {
+        counts.len() == 0
+    }
 }
 
 // Whether z or m holds a value for each of n points, or none where the layout lacks it.
@@ -45,8 +56,17 @@ pub(crate) fn measure_size(flag: bool, n: usize) -> usize
     if flag { 16 + 8 * n } else { 0 }
 }
 
+// The bytes in front of the points: box, counts and the starts of p parts.
+pub(crate) fn front_size(parts: bool, p: usize) -> usize
+    requires { ⌜ p < 2 ^ 61 ⌝ }
+    ensures { λ r. ⌜ r ≡ frontSize parts p ⌝ }
+{
+    if parts { 40 + 4 * p } else { 36 }
+}
+
 // How many bytes the body takes, as `Written`, where they are to be written.
 pub(crate) fn judge_body(
+    parts: bool,
     z: bool,
     m: bool,
     counts: &[u32],
@@ -55,13 +75,13 @@ pub(crate) fn judge_body(
     ms: &[f64],
     room: usize,
 ) -> LayoutAnswer
-    ensures { λ r. ⌜ saidLayout r ≡ layoutOf z m (now (counts .entry)) (now (xy .entry)) (now (zs .entry)) (now (ms .entry)) room ⌝ }
+    ensures { λ r. ⌜ saidLayout r ≡ layoutOf parts z m (now (counts .entry)) (now (xy .entry)) (now (zs .entry)) (now (ms .entry)) room ⌝ }
 {
     let n = xy.len() / 2;
     if xy.len() % 2 != 0 {
         return LayoutAnswer::Tables;
     }
-    if !sums_to(counts, n) {
+    if !counted(parts, counts, n) {
         return LayoutAnswer::Tables;
     }
     if !holds(z, zs, n) {
@@ -76,7 +96,8 @@ pub(crate) fn judge_body(
     if 0x7fff_ffff < n {
         return LayoutAnswer::Long;
     }
-    let size = 40 + 4 * counts.len() + 16 * n + measure_size(z, n) + measure_size(m, n);
+    let front = front_size(parts, counts.len());
+    let size = front + 16 * n + measure_size(z, n) + measure_size(m, n);
     if room < size {
         return LayoutAnswer::Room(size);
     }

@@ -1,4 +1,4 @@
-// The bytes of bodies with parts, one function for each layout: xy; xy and m; xy, z and m.
+// The bytes of bodies of several points; with parts also one function for each layout: xy; xy and m; xy, z and m.
 ghost use mathlib.Core.Bool.{true, false};
 ghost use mathlib.Core.List.{[]};
 ghost use Rattle.layouts.specs.Answers.{WritesBody};
@@ -15,9 +15,10 @@ pub enum LayoutAnswer {
     Room(usize),
 }
 
-// A body in the layout that the flags name: all is judged before the first byte is stored.
-fn write_body(
+// A body in the layout that the flags name, in parts or as a multipoint: all is judged before the first byte is stored.
+pub fn write_body(
     out: &mut [u8],
+    parts: bool,
     z: bool,
     m: bool,
     bbox: BBoxZ,
@@ -26,23 +27,23 @@ fn write_body(
     zs: &[f64],
     ms: &[f64],
 ) -> LayoutAnswer
-    ensures { λ r. ⌜ WritesBody z m bbox (now (counts .entry)) (now (xy .entry)) (now (zs .entry)) (now (ms .entry)) (now (out .entry)) r (now (out .exit)) ⌝ }
+    ensures { λ r. ⌜ WritesBody parts z m bbox (now (counts .entry)) (now (xy .entry)) (now (zs .entry)) (now (ms .entry)) (now (out .entry)) r (now (out .exit)) ⌝ }
 {
-    match judge::judge_body(z, m, counts, xy, zs, ms, out.len()) {
+    match judge::judge_body(parts, z, m, counts, xy, zs, ms, out.len()) {
         LayoutAnswer::Tables => LayoutAnswer::Tables,
         LayoutAnswer::Long => LayoutAnswer::Long,
         LayoutAnswer::Room(size) => LayoutAnswer::Room(size),
         LayoutAnswer::Written(size) => {
-            puts::put_body(out, z, m, bbox, counts, xy, zs, ms);
+            puts::put_body(out, parts, z, m, bbox, counts, xy, zs, ms);
             LayoutAnswer::Written(size)
         }
     }
 }
 
 pub fn write_point_shape(out: &mut [u8], bbox: BBoxZ, counts: &[u32], xy: &[f64]) -> LayoutAnswer
-    ensures { λ r. ⌜ WritesBody false false bbox (now (counts .entry)) (now (xy .entry)) [] [] (now (out .entry)) r (now (out .exit)) ⌝ }
+    ensures { λ r. ⌜ WritesBody true false false bbox (now (counts .entry)) (now (xy .entry)) [] [] (now (out .entry)) r (now (out .exit)) ⌝ }
 {
-    write_body(out, false, false, bbox, counts, xy, &[], &[])
+    write_body(out, true, false, false, bbox, counts, xy, &[], &[])
 }
 
 pub fn write_point_m_shape(
@@ -52,9 +53,9 @@ pub fn write_point_m_shape(
     xy: &[f64],
     ms: &[f64],
 ) -> LayoutAnswer
-    ensures { λ r. ⌜ WritesBody false true bbox (now (counts .entry)) (now (xy .entry)) [] (now (ms .entry)) (now (out .entry)) r (now (out .exit)) ⌝ }
+    ensures { λ r. ⌜ WritesBody true false true bbox (now (counts .entry)) (now (xy .entry)) [] (now (ms .entry)) (now (out .entry)) r (now (out .exit)) ⌝ }
 {
-    write_body(out, false, true, bbox, counts, xy, &[], ms)
+    write_body(out, true, false, true, bbox, counts, xy, &[], ms)
 }
 
 pub fn write_point_z_shape(
@@ -65,7 +66,7 @@ pub fn write_point_z_shape(
     zs: &[f64],
     ms: &[f64],
 ) -> LayoutAnswer
-    ensures { λ r. ⌜ WritesBody true true bbox (now (counts .entry)) (now (xy .entry)) (now (zs .entry)) (now (ms .entry)) (now (out .entry)) r (now (out .exit)) ⌝ }
+    ensures { λ r. ⌜ WritesBody true true true bbox (now (counts .entry)) (now (xy .entry)) (now (zs .entry)) (now (ms .entry)) (now (out .entry)) r (now (out .exit)) ⌝ }
 {
-    write_body(out, true, true, bbox, counts, xy, zs, ms)
+    write_body(out, true, true, true, bbox, counts, xy, zs, ms)
 }

@@ -1,12 +1,14 @@
 // A body's bytes go in from the front of the output: box, counts, starts, xy, z and m. Internal: a caller shows that they fit.
 ghost use mathlib.Core.Path.{_≡_};
+ghost use mathlib.Core.Bool.{true};
 ghost use Prim.Native.Nat.{_+_, _*_, _≤_, _<_, _^_};
 ghost use lib.ListN.{length};
 ghost use lib.Seq.{sets};
-ghost use Rattle.format.specs.Encoding.{measureBytes, partsBytes};
+ghost use Rattle.format.specs.Encoding.{measureBytes, shapeBytes};
 ghost use Rattle.format.specs.Shapes.{sum};
-ghost use Rattle.layouts.specs.Steps.{measureSize, startsBytes, frontBytes, Placed};
-ghost use Rattle.layouts.specs.Tables.{measureOf, partsOf};
+ghost use Rattle.layouts.specs.Steps.{measureSize, startsBytes, countsBytes, frontBytes, frontSize, Placed};
+ghost use Rattle.layouts.specs.Tables.{measureOf, severalOf};
+use crate::judge::front_size;
 use crate::judge::measure_size;
 use header::bbox::BBoxZ;
 
@@ -24,16 +26,28 @@ fn put_starts(out: &mut [u8], at: usize, counts: &[u32])
     }
 }
 
+// The counts and starts; of a multipoint n alone.
+fn put_counts(out: &mut [u8], parts: bool, counts: &[u32], n: usize)
+    requires { ⌜ (frontSize parts (length (now counts)) ≤ length (now out)) × (parts ≡ true → sum (now counts) < 2 ^ 31) ⌝ }
+    ensures { λ _. ⌜ now (out .exit) ≡ sets (now (out .entry)) 32 (countsBytes parts (now (counts .entry)) n) ⌝ }
+{
+    if parts {
+        fields::put_le(out, 32, counts.len() as u64, 4);
+        fields::put_le(out, 36, n as u64, 4);
+        put_starts(out, 40, counts);
+    } else {
+        fields::put_le(out, 32, n as u64, 4);
+    }
+}
+
 // What every layout has in front: box, counts and starts.
-fn put_front(out: &mut [u8], bbox: BBoxZ, counts: &[u32], n: usize)
-    requires { ⌜ (40 + 4 * length (now counts) ≤ length (now out)) × (sum (now counts) < 2 ^ 31) ⌝ }
-    ensures { λ _. ⌜ now (out .exit) ≡ sets (now (out .entry)) 0 (frontBytes bbox (now (counts .entry)) n) ⌝ }
+fn put_front(out: &mut [u8], parts: bool, bbox: BBoxZ, counts: &[u32], n: usize)
+    requires { ⌜ (frontSize parts (length (now counts)) ≤ length (now out)) × (parts ≡ true → sum (now counts) < 2 ^ 31) ⌝ }
+    ensures { λ _. ⌜ now (out .exit) ≡ sets (now (out .entry)) 0 (frontBytes parts bbox (now (counts .entry)) n) ⌝ }
 {
     let corners = [bbox.xmin, bbox.ymin, bbox.xmax, bbox.ymax];
     fields::write_doubles(out, 0, &corners);
-    fields::put_le(out, 32, counts.len() as u64, 4);
-    fields::put_le(out, 36, n as u64, 4);
-    put_starts(out, 40, counts);
+    put_counts(out, parts, counts, n);
 }
 
 // A range and its values, where the layout has them.
@@ -52,6 +66,7 @@ fn put_measure(out: &mut [u8], at: usize, flag: bool, low: f64, high: f64, value
 // All of a body, field after field.
 pub(crate) fn put_body(
     out: &mut [u8],
+    parts: bool,
     z: bool,
     m: bool,
     bbox: BBoxZ,
@@ -60,14 +75,14 @@ pub(crate) fn put_body(
     zs: &[f64],
     ms: &[f64],
 )
-    requires { ⌜ Placed z m (now counts) (now xy) (now zs) (now ms) (length (now out)) ⌝ }
-    ensures { λ _. ⌜ now (out .exit) ≡ sets (now (out .entry)) 0 (partsBytes (partsOf z m bbox (now (counts .entry)) (now (xy .entry)) (now (zs .entry)) (now (ms .entry)))) ⌝ }
+    requires { ⌜ Placed parts z m (now counts) (now xy) (now zs) (now ms) (length (now out)) ⌝ }
+    ensures { λ _. ⌜ now (out .exit) ≡ sets (now (out .entry)) 0 (shapeBytes (severalOf parts z m bbox (now (counts .entry)) (now (xy .entry)) (now (zs .entry)) (now (ms .entry)))) ⌝ }
 {
     let n = xy.len() / 2;
-    let xy_at = 40 + 4 * counts.len();
+    let xy_at = front_size(parts, counts.len());
     let z_at = xy_at + 16 * n;
     let m_at = z_at + measure_size(z, n);
-    put_front(out, bbox, counts, n);
+    put_front(out, parts, bbox, counts, n);
     fields::write_doubles(out, xy_at, xy);
     put_measure(out, z_at, z, bbox.zmin, bbox.zmax, zs);
     put_measure(out, m_at, m, bbox.mmin, bbox.mmax, ms);

@@ -17,7 +17,7 @@ use Rattle.multipart.specs.declared.CountsAnswer.{CountsAnswer}
 use Rattle.multipart.specs.declared.CountsAnswer.the-variants as CountsIs
 use Rattle.multipart.specs.declared.BodyAnswer.{BodyAnswer}
 use Rattle.multipart.specs.declared.BodyAnswer.the-variants as BodyIs
-use Rattle.multipart.specs.Body.{countTests, countsIn, xyIn, zIn, mIn, bodyOf}
+use Rattle.multipart.specs.Body.{partsIn, numberAt, countTests, countsIn, xyIn, zIn, mIn, bodyOf}
 use Rattle.multipart.specs.Parts.{isCount}
 
 -- ---- a part's count, from its start and its end
@@ -29,7 +29,7 @@ saidPart PartIs.Size = wrongSize 0
 unfoldable pub partOf : ℤ → ℤ → Said ℕ
 partOf start end = cond (isCount (end -ℤ start)) (gives (natAbs (end -ℤ start))) (wrongSize 0)
 
--- ---- the two counts of a body
+-- ---- the two counts of a body: a multipoint has no parts
 
 pub record Two : Type 0 where
   pub parts : ℕ
@@ -40,8 +40,8 @@ saidCounts (CountsIs.Are p n) = gives (record { parts = p; points = n })
 saidCounts (CountsIs.Short at present) = short at present
 saidCounts (CountsIs.Size at) = wrongSize at
 
-unfoldable pub countsOf : List ℕ → Said Two
-countsOf s = first (countTests s) (gives (record { parts = natAbs (leI32 32 s); points = natAbs (leI32 36 s) }))
+unfoldable pub countsOf : Bool → List ℕ → Said Two
+countsOf parts s = first (countTests parts s) (gives (record { parts = partsIn parts s; points = natAbs (leI32 (numberAt parts) s) }))
 
 -- ---- a body
 
@@ -52,9 +52,9 @@ saidBody (BodyIs.Size at) = wrongSize at
 saidBody (BodyIs.Room parts points) = room parts points
 
 -- what reading a body comes to: the answer, and the stores, of which entries past what is stored stay
-pub record ReadsBody (z m : Bool) (s counts : List ℕ) (xy zs ms : List Float) (answer : BodyAnswer) (counts′ : List ℕ) (xy′ zs′ ms′ : List Float) : Type 0 where
-  pub says : saidBody answer ≡ bodyOf z m s (length counts) (length xy) (length zs) (length ms)
-  pub counts-are : counts′ ≡ unlessRefused (saidBody answer) counts (sets counts 0 (countsIn s))
-  pub xy-are : xy′ ≡ unlessRefused (saidBody answer) xy (sets xy 0 (xyIn s))
-  pub z-are : zs′ ≡ unlessRefused (saidBody answer) zs (sets zs 0 (zIn z s))
-  pub m-are : ms′ ≡ unlessRefused (saidBody answer) ms (sets ms 0 (mIn z m s))
+pub record ReadsBody (parts z m : Bool) (s counts : List ℕ) (xy zs ms : List Float) (answer : BodyAnswer) (counts′ : List ℕ) (xy′ zs′ ms′ : List Float) : Type 0 where
+  pub says : saidBody answer ≡ bodyOf parts z m s (length counts) (length xy) (length zs) (length ms)
+  pub counts-are : counts′ ≡ unlessRefused (saidBody answer) counts (sets counts 0 (countsIn parts s))
+  pub xy-are : xy′ ≡ unlessRefused (saidBody answer) xy (sets xy 0 (xyIn parts s))
+  pub z-are : zs′ ≡ unlessRefused (saidBody answer) zs (sets zs 0 (zIn parts z s))
+  pub m-are : ms′ ≡ unlessRefused (saidBody answer) ms (sets ms 0 (mIn parts z m s))

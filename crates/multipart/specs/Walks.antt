@@ -7,7 +7,8 @@ use lib.Ieee.{Float}
 use lib.IntN.{ℤ}
 use lib.ListN.{length}
 use lib.Seq.{sets}
-use Rattle.format.specs.Numbers.{leI32}
+use lib.Signed.{nonNeg}
+use Rattle.format.specs.Numbers.{leI32, leF64}
 use Rattle.format.specs.Order.{first}
 use Rattle.format.specs.Said.{Said, short, wrongSize}
 use Rattle.format.specs.Shapes.{sum}
@@ -15,7 +16,7 @@ use Rattle.multipart.specs.declared.Body.{Body}
 use Rattle.multipart.specs.declared.judge.Walk.{Walk}
 use Rattle.multipart.specs.declared.judge.Walk.the-variants.{On, Short, Size}
 use Rattle.multipart.specs.Parts.{countOf, differences, startsAt}
-use Rattle.multipart.specs.Body.{partsIn, countsIn, pointsIn, mAt, xyIn, zIn, mIn, bodyIn, countTests, partTests, measureTests, restTests, hasRoom}
+use Rattle.multipart.specs.Body.{partsIn, numberAt, countsIn, pointsIn, zAt, mAt, rangeAt, noRange, xyIn, zIn, mIn, bodyIn, countTests, partTests, measureTests, pairTests, restTests, hasRoom}
 
 -- ---- tests, whatever follows them
 
@@ -63,29 +64,46 @@ MeasureWalk flag n at s = Finds (measureTests flag n at s) (λ end. (end ≡ end
 -- ---- the body
 
 -- the counts are well, and there are p parts
-pub record Counted (s : List ℕ) (p : ℕ) : Type 0 where
-  pub long : 40 ≤ length s
-  pub parts-are : p ≡ partsIn s
-  pub passes : Passes (countTests s)
+pub record Counted (parts : Bool) (s : List ℕ) (p : ℕ) : Type 0 where
+  pub long : numberAt parts + 4 ≤ length s
+  pub parts-are : p ≡ partsIn parts s
+  pub number-held : nonNeg (leI32 (numberAt parts) s) ≡ true
+  pub passes : Passes (countTests parts s)
 
--- the walk over what follows them finds how many points are read
-abbrev pub RestWalk : Bool → Bool → List ℕ → Walk → Type 0
-RestWalk z m s = Finds (restTests z m s) (λ points. (points ≡ pointsIn s) × (endAfter m (pointsIn s) (mAt z s) ≤ length s))
+-- the walk over the pairs finds how many points are read, and all pairs of these are there
+abbrev pub PairsWalk : Bool → List ℕ → Walk → Type 0
+PairsWalk parts s = Finds (pairTests parts s) (λ points. (points ≡ pointsIn parts s) × (zAt parts s ≤ length s))
+
+-- and so does the walk over all that follows the counts
+abbrev pub RestWalk : Bool → Bool → Bool → List ℕ → Walk → Type 0
+RestWalk parts z m s =
+    Finds (restTests parts z m s) (λ points. (points ≡ pointsIn parts s) × (endAfter m (pointsIn parts s) (mAt parts z s) ≤ length s))
 
 -- ---- storing
 
+-- what a body with these counts holds, whose pairs end at a place
+abbrev pub bodyAt : Bool → Bool → ℕ → ℕ → ℕ → List ℕ → Body
+bodyAt z m p points end s =
+    record {
+      bbox = record { xmin = leF64 0 s; ymin = leF64 8 s; xmax = leF64 16 s; ymax = leF64 24 s };
+      «z_range» = cond z (rangeAt end s) noRange;
+      «m_range» = cond m (rangeAt (endAfter z points end) s) noRange;
+      parts = p;
+      points = points;
+    }
+
 -- a body that was judged, with these parts and points, and stores of these lengths that have room for it
-pub record Ready (z m : Bool) (s : List ℕ) (p : ℕ) (n : ℤ) (points counts xy zs ms : ℕ) : Type 0 where
-  pub parts-are : p ≡ partsIn s
-  pub number-is : n ≡ leI32 36 s
-  pub points-are : points ≡ pointsIn s
-  pub ends : endAfter m (pointsIn s) (mAt z s) ≤ length s
+pub record Ready (parts z m : Bool) (s : List ℕ) (p : ℕ) (n : ℤ) (points counts xy zs ms : ℕ) : Type 0 where
+  pub parts-are : p ≡ partsIn parts s
+  pub number-is : n ≡ leI32 (numberAt parts) s
+  pub points-are : points ≡ pointsIn parts s
+  pub ends : endAfter m (pointsIn parts s) (mAt parts z s) ≤ length s
   pub room : hasRoom z m p points counts xy zs ms ≡ true
 
 -- what is stored of it
-pub record Stores (z m : Bool) (s counts : List ℕ) (xy zs ms : List Float) (body : Body) (counts′ : List ℕ) (xy′ zs′ ms′ : List Float) : Type 0 where
-  pub body-is : body ≡ bodyIn z m s
-  pub counts-are : counts′ ≡ sets counts 0 (countsIn s)
-  pub xy-are : xy′ ≡ sets xy 0 (xyIn s)
-  pub z-are : zs′ ≡ sets zs 0 (zIn z s)
-  pub m-are : ms′ ≡ sets ms 0 (mIn z m s)
+pub record Stores (parts z m : Bool) (s counts : List ℕ) (xy zs ms : List Float) (body : Body) (counts′ : List ℕ) (xy′ zs′ ms′ : List Float) : Type 0 where
+  pub body-is : body ≡ bodyIn parts z m s
+  pub counts-are : counts′ ≡ sets counts 0 (countsIn parts s)
+  pub xy-are : xy′ ≡ sets xy 0 (xyIn parts s)
+  pub z-are : zs′ ≡ sets zs 0 (zIn parts z s)
+  pub m-are : ms′ ≡ sets ms 0 (mIn parts z m s)

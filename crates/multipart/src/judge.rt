@@ -4,9 +4,9 @@ ghost use Prim.Native.Nat.{_+_, _*_, _≤_, _<_, _^_};
 ghost use lib.ListN.{length};
 ghost use Rattle.format.specs.Numbers.{leI32};
 ghost use Rattle.multipart.specs.Answers.{saidPart, partOf};
-ghost use Rattle.multipart.specs.Body.{partsIn};
+ghost use Rattle.multipart.specs.Body.{numberAt};
 ghost use Rattle.multipart.specs.Parts.{startsAt};
-ghost use Rattle.multipart.specs.Walks.{endOf, endAfter, PartsWalk, MeasureWalk, RestWalk};
+ghost use Rattle.multipart.specs.Walks.{endOf, endAfter, Counted, PartsWalk, MeasureWalk, PairsWalk, RestWalk};
 use crate::PartAnswer;
 use crate::part_count;
 
@@ -16,6 +16,21 @@ pub enum Walk {
     On(usize),
     Short(usize, usize),
     Size(usize),
+}
+
+// Where the number of points stands: behind that of the parts, if there are any.
+pub(crate) fn number_at(parts: bool) -> usize
+    ensures { λ r. ⌜ r ≡ numberAt parts ⌝ }
+{
+    if parts { 36 } else { 32 }
+}
+
+// Where the pairs stand, behind p starts.
+pub(crate) fn pairs_at(parts: bool, p: usize) -> usize
+    requires { ⌜ numberAt parts + 4 + 4 * p < 2 ^ 64 ⌝ }
+    ensures { λ r. ⌜ r ≡ numberAt parts + 4 + 4 * p ⌝ }
+{
+    number_at(parts) + 4 + 4 * p
 }
 
 // The points of the part whose start stands at a place: so many starts follow it, and the last part ends at n.
@@ -83,19 +98,36 @@ fn judge_measure(s: &[u8], flag: bool, n: usize, at: usize) -> Walk
     Walk::On(at)
 }
 
-// All that follows the counts: how many points are read.
-pub(crate) fn judge_rest(s: &[u8], z: bool, m: bool, p: usize, n: i32) -> Walk
-    requires { ⌜ (40 ≤ length (now s)) × (p ≡ partsIn (now s)) × (n ≡ leI32 36 (now s)) ⌝ }
-    ensures { λ r. ⌜ RestWalk z m (now (s .entry)) r ⌝ }
+// The pairs, behind the starts of p parts, or the n pairs of a multipoint: how many points are read.
+fn judge_pairs(s: &[u8], parts: bool, p: usize, n: i32) -> Walk
+    requires { ⌜ (Counted parts (now s) p) × (n ≡ leI32 (numberAt parts) (now s)) ⌝ }
+    ensures { λ r. ⌜ PairsWalk parts (now (s .entry)) r ⌝ }
 {
-    let rest = s.len() - 40;
-    if rest / 4 < p {
-        return Walk::Short(40 + rest / 4 * 4, rest % 4);
+    if parts {
+        let rest = s.len() - 40;
+        if rest / 4 < p {
+            return Walk::Short(40 + rest / 4 * 4, rest % 4);
+        }
+        judge_parts(s, p, n)
+    } else {
+        let rest = s.len() - 36;
+        let points = n as usize;
+        if rest / 16 < points {
+            return Walk::Short(36 + rest / 8 * 8, rest % 8);
+        }
+        Walk::On(points)
     }
-    match judge_parts(s, p, n) {
+}
+
+// All that follows the counts: how many points are read.
+pub(crate) fn judge_rest(s: &[u8], parts: bool, z: bool, m: bool, p: usize, n: i32) -> Walk
+    requires { ⌜ (Counted parts (now s) p) × (n ≡ leI32 (numberAt parts) (now s)) ⌝ }
+    ensures { λ r. ⌜ RestWalk parts z m (now (s .entry)) r ⌝ }
+{
+    match judge_pairs(s, parts, p, n) {
         Walk::Short(at, present) => Walk::Short(at, present),
         Walk::Size(at) => Walk::Size(at),
-        Walk::On(points) => match judge_measure(s, z, points, 40 + 4 * p + 16 * points) {
+        Walk::On(points) => match judge_measure(s, z, points, pairs_at(parts, p) + 16 * points) {
             Walk::Short(at, present) => Walk::Short(at, present),
             Walk::Size(at) => Walk::Size(at),
             Walk::On(end) => match judge_measure(s, m, points, end) {

@@ -1,4 +1,4 @@
-// Bodies with parts: part arithmetic and the body reader.
+// Bodies of several points, in parts or as a multipoint: part arithmetic and the body reader.
 ghost use mathlib.Core.Path.{_≡_};
 ghost use Rattle.multipart.specs.Answers.{saidPart, partOf, saidCounts, countsOf, ReadsBody};
 ghost use Rattle.multipart.specs.Walks.{Counted};
@@ -64,9 +64,9 @@ pub fn part_count(start: i32, end: i32) -> PartAnswer
     PartAnswer::Count(d as u32)
 }
 
-// How many parts and points the body says it has, which stand behind the box.
-pub fn read_counts(s: &[u8]) -> CountsAnswer
-    ensures { λ r. ⌜ saidCounts r ≡ countsOf (now (s .entry)) ⌝ }
+// How many parts and points the body says it has, which stand behind the box: a multipoint has only points.
+pub fn read_counts(s: &[u8], parts: bool) -> CountsAnswer
+    ensures { λ r. ⌜ saidCounts r ≡ countsOf parts (now (s .entry)) ⌝ }
 {
     let len = s.len();
     if len < 32 {
@@ -76,6 +76,12 @@ pub fn read_counts(s: &[u8]) -> CountsAnswer
         return CountsAnswer::Short(32, len - 32);
     }
     let p = fields::le_i32_at(s, 32);
+    if !parts {
+        if p < 0 {
+            return CountsAnswer::Size(32);
+        }
+        return CountsAnswer::Are(0, p as u32);
+    }
     if len < 40 {
         return CountsAnswer::Short(36, len - 36);
     }
@@ -92,6 +98,7 @@ pub fn read_counts(s: &[u8]) -> CountsAnswer
 // The rest of a body whose counts are well, with p parts.
 fn read_rest(
     s: &[u8],
+    parts: bool,
     z: bool,
     m: bool,
     p: usize,
@@ -100,16 +107,16 @@ fn read_rest(
     zs: &mut [f64],
     ms: &mut [f64],
 ) -> BodyAnswer
-    requires { ⌜ Counted (now s) p ⌝ }
-    ensures { λ r. ⌜ ReadsBody z m (now (s .entry)) (now (counts .entry)) (now (xy .entry)) (now (zs .entry)) (now (ms .entry)) r (now (counts .exit)) (now (xy .exit)) (now (zs .exit)) (now (ms .exit)) ⌝ }
+    requires { ⌜ Counted parts (now s) p ⌝ }
+    ensures { λ r. ⌜ ReadsBody parts z m (now (s .entry)) (now (counts .entry)) (now (xy .entry)) (now (zs .entry)) (now (ms .entry)) r (now (counts .exit)) (now (xy .exit)) (now (zs .exit)) (now (ms .exit)) ⌝ }
 {
-    let n = fields::le_i32_at(s, 36);
-    match judge::judge_rest(s, z, m, p, n) {
+    let n = fields::le_i32_at(s, judge::number_at(parts));
+    match judge::judge_rest(s, parts, z, m, p, n) {
         Walk::Short(at, present) => BodyAnswer::Short(at, present),
         Walk::Size(at) => BodyAnswer::Size(at),
         Walk::On(points) => {
             if store::has_room(z, m, p, points, counts.len(), xy.len(), zs.len(), ms.len()) {
-                BodyAnswer::Whole(store::store_body(s, z, m, p, n, points, counts, xy, zs, ms))
+                BodyAnswer::Whole(store::store_body(s, parts, z, m, p, n, points, counts, xy, zs, ms))
             } else {
                 BodyAnswer::Room(p, points)
             }
@@ -120,6 +127,7 @@ fn read_rest(
 // A body with these flags: what it holds, and its values in the stores.
 pub fn read_body(
     s: &[u8],
+    parts: bool,
     z: bool,
     m: bool,
     counts: &mut [u32],
@@ -127,11 +135,11 @@ pub fn read_body(
     zs: &mut [f64],
     ms: &mut [f64],
 ) -> BodyAnswer
-    ensures { λ r. ⌜ ReadsBody z m (now (s .entry)) (now (counts .entry)) (now (xy .entry)) (now (zs .entry)) (now (ms .entry)) r (now (counts .exit)) (now (xy .exit)) (now (zs .exit)) (now (ms .exit)) ⌝ }
+    ensures { λ r. ⌜ ReadsBody parts z m (now (s .entry)) (now (counts .entry)) (now (xy .entry)) (now (zs .entry)) (now (ms .entry)) r (now (counts .exit)) (now (xy .exit)) (now (zs .exit)) (now (ms .exit)) ⌝ }
 {
-    match read_counts(s) {
+    match read_counts(s, parts) {
         CountsAnswer::Short(at, present) => BodyAnswer::Short(at, present),
         CountsAnswer::Size(at) => BodyAnswer::Size(at),
-        CountsAnswer::Are(p, _) => read_rest(s, z, m, p as usize, counts, xy, zs, ms),
+        CountsAnswer::Are(p, _) => read_rest(s, parts, z, m, p as usize, counts, xy, zs, ms),
     }
 }

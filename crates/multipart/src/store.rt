@@ -8,9 +8,9 @@ ghost use lib.IntN.{_-ℤ_};
 ghost use lib.ListN.{length};
 ghost use lib.Seq.{sets};
 ghost use Rattle.format.specs.Numbers.{leI32, doublesAt};
-ghost use Rattle.multipart.specs.Body.{partsIn, pointsIn, zAt, mAt, raised, rangeAt, noRange, bodyIn, hasRoom};
+ghost use Rattle.multipart.specs.Body.{raised, rangeAt, noRange, hasRoom};
 ghost use Rattle.multipart.specs.Parts.{countOf, startsAt};
-ghost use Rattle.multipart.specs.Walks.{endOf, endAfter, differencesOf, Ready, Stores};
+ghost use Rattle.multipart.specs.Walks.{endOf, endAfter, differencesOf, bodyAt, Ready, Stores};
 use crate::BBox;
 use crate::Body;
 use crate::PartAnswer;
@@ -53,12 +53,12 @@ fn store_doubles(s: &[u8], at: usize, k: usize, out: &mut [f64])
     fields::read_doubles(s, at, &mut out[0..k]);
 }
 
-// The pairs of so many points behind the p starts: from the first pair on, whatever the starts are.
-fn store_pairs(s: &[u8], p: usize, points: usize, xy: &mut [f64])
-    requires { ⌜ (40 + 4 * p + 16 * points ≤ length (now s)) × (2 * points ≤ length (now xy)) ⌝ }
-    ensures { λ _. ⌜ now (xy .exit) ≡ sets (now (xy .entry)) 0 (doublesAt (2 * points) (40 + 4 * p) (now (s .entry))) ⌝ }
+// The pairs of so many points from a place on: from the first pair on, whatever the starts are.
+fn store_pairs(s: &[u8], at: usize, points: usize, xy: &mut [f64])
+    requires { ⌜ (at + 16 * points ≤ length (now s)) × (2 * points ≤ length (now xy)) ⌝ }
+    ensures { λ _. ⌜ now (xy .exit) ≡ sets (now (xy .entry)) 0 (doublesAt (2 * points) at (now (s .entry))) ⌝ }
 {
-    store_doubles(s, 40 + 4 * p, 2 * points, xy);
+    store_doubles(s, at, 2 * points, xy);
 }
 
 // The n values behind a range, where the flag is set.
@@ -144,10 +144,10 @@ pub(crate) fn has_room(
     }
 }
 
-// What a body holds beside the values; its pairs end at a place.
+// What a body with these counts holds beside the values; its pairs end at a place.
 fn body_at(s: &[u8], z: bool, m: bool, parts: usize, points: usize, end: usize) -> Body
-    requires { ⌜ (parts ≡ partsIn (now s)) × (points ≡ pointsIn (now s)) × (end ≡ zAt (now s)) × (endAfter m (pointsIn (now s)) (mAt z (now s)) ≤ length (now s)) ⌝ }
-    ensures { λ r. ⌜ r ≡ bodyIn z m (now (s .entry)) ⌝ }
+    requires { ⌜ (32 ≤ length (now s)) × (endAfter m points (endAfter z points end) ≤ length (now s)) ⌝ }
+    ensures { λ r. ⌜ r ≡ bodyAt z m parts points end (now (s .entry)) ⌝ }
 {
     let m_at = judge::end_after(z, points, end);
     Body {
@@ -167,6 +167,7 @@ fn body_at(s: &[u8], z: bool, m: bool, parts: usize, points: usize, end: usize) 
 // All values of a body with these parts and points, into stores that have room for them.
 pub(crate) fn store_body(
     s: &[u8],
+    parts: bool,
     z: bool,
     m: bool,
     p: usize,
@@ -177,12 +178,15 @@ pub(crate) fn store_body(
     zs: &mut [f64],
     ms: &mut [f64],
 ) -> Body
-    requires { ⌜ Ready z m (now s) p n points (length (now counts)) (length (now xy)) (length (now zs)) (length (now ms)) ⌝ }
-    ensures { λ r. ⌜ Stores z m (now (s .entry)) (now (counts .entry)) (now (xy .entry)) (now (zs .entry)) (now (ms .entry)) r (now (counts .exit)) (now (xy .exit)) (now (zs .exit)) (now (ms .exit)) ⌝ }
+    requires { ⌜ Ready parts z m (now s) p n points (length (now counts)) (length (now xy)) (length (now zs)) (length (now ms)) ⌝ }
+    ensures { λ r. ⌜ Stores parts z m (now (s .entry)) (now (counts .entry)) (now (xy .entry)) (now (zs .entry)) (now (ms .entry)) r (now (counts .exit)) (now (xy .exit)) (now (zs .exit)) (now (ms .exit)) ⌝ }
 {
-    let end = 40 + 4 * p + 16 * points;
-    store_counts(s, p, n, counts);
-    store_pairs(s, p, points, xy);
+    let at = judge::pairs_at(parts, p);
+    let end = at + 16 * points;
+    if parts {
+        store_counts(s, p, n, counts);
+    }
+    store_pairs(s, at, points, xy);
     store_z(s, z, points, end, zs);
     store_m(s, m, points, judge::end_after(z, points, end), ms);
     body_at(s, z, m, p, points, end)

@@ -2,7 +2,7 @@
 pub mod Determined
 mod FrontLaws
 pub mod Numbered
-mod PartsLaws
+mod SeveralLaws
 pub mod Placed
 pub mod PointLaws
 pub mod ShapeLaws

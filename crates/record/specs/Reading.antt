@@ -12,7 +12,7 @@ use lib.Seq.{sets}
 use Rattle.format.specs.declared.kinds.Kind.{Kind}
 use Rattle.format.specs.declared.units.Bytes.{Bytes}
 use Rattle.format.specs.Kinds.{known, kindAt, kindOr}
-use Rattle.format.specs.Lengths.{Form, nothing, onePoint, parts, contentWords, formAt}
+use Rattle.format.specs.Lengths.{Form, nothing, onePoint, manyPoints, parts, severalForm, contentWords, formAt}
 use Rattle.format.specs.Numbers.{leI32, leF64}
 use Rattle.format.specs.Order.{first, fieldAt, fieldsFrom}
 use Rattle.format.specs.Said.{Said, gives, refuses, short, wrongSize, unknown, mismatch, room, notTaken}
@@ -27,16 +27,21 @@ use Rattle.record.specs.declared.Point.{Point}
 use Rattle.record.specs.declared.RecordAnswer.{RecordAnswer}
 use Rattle.record.specs.declared.RecordAnswer.the-variants as Is
 
--- what is read: nothing, a point, or a body with whether it has m
+-- what is read: nothing, a point, or the body of a multipoint or of parts with whether it has m
 pub data Shaped : Type 0 where
   nullShape : Shaped
   pointShape : ℤ → Point → Shaped
+  multipointShape : ℤ → Bool → Body → Shaped
   partsShape : ℤ → Bool → Body → Shaped
 
 -- ---- the kind's field
 
 abbrev pub codeIn : List ℕ → ℤ
 codeIn s = leI32 0 s
+
+-- the kind that the content names
+abbrev pub kindIn : List ℕ → Kind
+kindIn s = kindOr (kindAt (codeIn s))
 
 -- a kind that is taken
 abbrev pub isTaken : ℤ → Bool
@@ -65,7 +70,7 @@ foundTests wanted size s =
 abbrev pub frontTests : {A : Type 0} → Wanted → Bytes → List ℕ → List (Bool × Said A)
 frontTests wanted size s = wantedTests wanted ++ foundTests wanted size s
 
--- ---- the three forms
+-- ---- the forms
 
 -- the size is so many words
 abbrev pub isWords : Bytes → ℕ → Bool
@@ -104,37 +109,45 @@ andThen (gives a) f = f a
 andThen (refuses n values) f = refuses n values
 
 abbrev pub hasM : Kind → Bytes → Two → Bool
-hasM k size two = k .m && isWords size (contentWords parts (k .z) true (two .parts) (two .points))
+hasM k size two = k .m && isWords size (contentWords (severalForm (k .parts)) (k .z) true (two .parts) (two .points))
 
 abbrev pub sizeRight : Kind → Bytes → Two → Bool
-sizeRight k size two = isWords size (contentWords parts (k .z) false (two .parts) (two .points)) || hasM k size two
+sizeRight k size two = isWords size (contentWords (severalForm (k .parts)) (k .z) false (two .parts) (two .points)) || hasM k size two
+
+-- a body, by whether it has parts
+abbrev pub severalShape : Bool → ℤ → Bool → Body → Shaped
+severalShape true code m body = partsShape code m body
+severalShape false code m body = multipointShape code m body
 
 -- box and counts, the signs; then the size must be twice a formula of the table, which settles whether m is read; then the rest
-unfoldable pub partsOf : Kind → Bytes → List ℕ → ℕ → ℕ → ℕ → ℕ → Said Shaped
-partsOf k size s counts xy zs ms =
-    andThen (moved (countsOf (drop 4 s)))
+unfoldable pub severalOf : Kind → Bytes → List ℕ → ℕ → ℕ → ℕ → ℕ → Said Shaped
+severalOf k size s counts xy zs ms =
+    andThen (moved (countsOf (k .parts) (drop 4 s)))
     (λ two.
     cond (sizeRight k size two)
-    (andThen (moved (bodyOf (k .z) (hasM k size two) (drop 4 s) counts xy zs ms)) (λ body. gives (partsShape (codeIn s) (hasM k size two) body)))
+    (andThen (moved (bodyOf (k .parts) (k .z) (hasM k size two) (drop 4 s) counts xy zs ms))
+    (λ body. gives (severalShape (k .parts) (codeIn s) (hasM k size two) body)))
     (wrongSize 0))
 
 abbrev pub byForm : Option Form → Kind → Bytes → List ℕ → ℕ → ℕ → ℕ → ℕ → Said Shaped
 byForm none k size s counts xy zs ms = notTaken (codeIn s)
 byForm (some nothing) k size s counts xy zs ms = gives nullShape
 byForm (some onePoint) k size s counts xy zs ms = pointOf k size s
-byForm (some parts) k size s counts xy zs ms = partsOf k size s counts xy zs ms
+byForm (some manyPoints) k size s counts xy zs ms = severalOf k size s counts xy zs ms
+byForm (some parts) k size s counts xy zs ms = severalOf k size s counts xy zs ms
 
 -- what reading a record says, with stores of these lengths
 unfoldable pub recordOf : Wanted → Bytes → List ℕ → ℕ → ℕ → ℕ → ℕ → Said Shaped
 recordOf wanted size s counts xy zs ms =
-    first (frontTests wanted size s) (byForm (formAt (codeIn s)) (kindOr (kindAt (codeIn s))) size s counts xy zs ms)
+    first (frontTests wanted size s) (byForm (formAt (codeIn s)) (kindIn s) size s counts xy zs ms)
 
 -- how wide the field at a place of a content of a form is: the kind's has four bytes; behind it the body's fields, or a point's, of eight
 abbrev pub widthBy : Option Form → List ℕ → ℕ → ℕ
 widthBy none b at = 8
 widthBy (some nothing) b at = 8
 widthBy (some onePoint) b at = 8
-widthBy (some parts) b at = bodyWidth b at
+widthBy (some manyPoints) b at = bodyWidth false b at
+widthBy (some parts) b at = bodyWidth true b at
 
 abbrev pub contentWidth : Option Form → List ℕ → ℕ → ℕ
 contentWidth form s at = cond (leb 4 at) (widthBy form (drop 4 s) (at - 4)) 4
@@ -144,6 +157,7 @@ contentWidth form s at = cond (leb 4 at) (widthBy form (drop 4 s) (at - 4)) 4
 abbrev pub saidRecord : RecordAnswer → Said Shaped
 saidRecord Is.Null = gives nullShape
 saidRecord (Is.Point code p) = gives (pointShape code p)
+saidRecord (Is.Multipoint code m body) = gives (multipointShape code m body)
 saidRecord (Is.Parts code m body) = gives (partsShape code m body)
 saidRecord (Is.Short at present) = short at present
 saidRecord (Is.Size at) = wrongSize at
@@ -152,16 +166,17 @@ saidRecord (Is.Mismatch wanted found) = mismatch wanted found
 saidRecord (Is.Room p n) = room p n
 saidRecord (Is.NotTaken code) = notTaken code
 
--- what goes into a store: only a shape with parts has any
+-- what goes into a store: only several points have any
 abbrev pub stored : {A : Type 0} → Said Shaped → List A → (Bool → List A) → List A
 stored (gives nullShape) store values = store
 stored (gives (pointShape code p)) store values = store
+stored (gives (multipointShape code m body)) store values = sets store 0 (values m)
 stored (gives (partsShape code m body)) store values = sets store 0 (values m)
 stored (refuses n vs) store values = store
 
 pub record ReadsRecord (wanted : Wanted) (size : Bytes) (s counts : List ℕ) (xy zs ms : List Float) (r : RecordAnswer) (counts′ : List ℕ) (xy′ zs′ ms′ : List Float) : Type 0 where
   pub says : saidRecord r ≡ recordOf wanted size s (length counts) (length xy) (length zs) (length ms)
-  pub counts-are : counts′ ≡ stored (saidRecord r) counts (λ m. countsIn (drop 4 s))
-  pub xy-are : xy′ ≡ stored (saidRecord r) xy (λ m. xyIn (drop 4 s))
-  pub z-are : zs′ ≡ stored (saidRecord r) zs (λ m. zIn (kindOr (kindAt (codeIn s)) .z) (drop 4 s))
-  pub m-are : ms′ ≡ stored (saidRecord r) ms (λ m. mIn (kindOr (kindAt (codeIn s)) .z) m (drop 4 s))
+  pub counts-are : counts′ ≡ stored (saidRecord r) counts (λ m. countsIn (kindIn s .parts) (drop 4 s))
+  pub xy-are : xy′ ≡ stored (saidRecord r) xy (λ m. xyIn (kindIn s .parts) (drop 4 s))
+  pub z-are : zs′ ≡ stored (saidRecord r) zs (λ m. zIn (kindIn s .parts) (kindIn s .z) (drop 4 s))
+  pub m-are : ms′ ≡ stored (saidRecord r) ms (λ m. mIn (kindIn s .parts) (kindIn s .z) m (drop 4 s))

@@ -25,7 +25,7 @@ use Rattle.record.specs.declared.front.Front.{Front}
 use Rattle.record.specs.declared.front.Front.the-variants as FrontIs
 use Rattle.record.specs.declared.sizes.Sized.{Sized}
 use Rattle.record.specs.declared.sizes.Sized.the-variants as SizedIs
-use Rattle.record.specs.Reading.{Shaped, nullShape, pointShape, partsShape, codeIn, moved, andThen, hasM, sizeRight, saidRecord, stored}
+use Rattle.record.specs.Reading.{Shaped, nullShape, pointShape, multipointShape, partsShape, severalShape, codeIn, moved, andThen, hasM, sizeRight, saidRecord, stored}
 
 -- ---- the tests in front of the shape
 
@@ -37,6 +37,7 @@ Passes ts = (a : Said Shaped) → first ts a ≡ a
 abbrev pub storesNone : Said Shaped → Bool
 storesNone (gives nullShape) = true
 storesNone (gives (pointShape code p)) = true
+storesNone (gives (multipointShape code m body)) = false
 storesNone (gives (partsShape code m body)) = false
 storesNone (refuses n vs) = true
 
@@ -87,18 +88,19 @@ pub record Answers (said : Said Shaped) (r : RecordAnswer) : Type 0 where
   pub none : storesNone (saidRecord r) ≡ true
 
 -- an answer that says this, with what the stores then hold of a body
-pub record Reads (said : Said Shaped) (z : Bool) (b counts : List ℕ) (xy zs ms : List Float) (r : RecordAnswer) (counts′ : List ℕ) (xy′ zs′ ms′ : List Float) : Type 0 where
+pub record Reads (said : Said Shaped) (parts z : Bool) (b counts : List ℕ) (xy zs ms : List Float) (r : RecordAnswer) (counts′ : List ℕ) (xy′ zs′ ms′ : List Float) : Type 0 where
   pub says : saidRecord r ≡ said
-  pub counts-are : counts′ ≡ stored (saidRecord r) counts (λ m. countsIn b)
-  pub xy-are : xy′ ≡ stored (saidRecord r) xy (λ m. xyIn b)
-  pub z-are : zs′ ≡ stored (saidRecord r) zs (λ m. zIn z b)
-  pub m-are : ms′ ≡ stored (saidRecord r) ms (λ m. mIn z m b)
+  pub counts-are : counts′ ≡ stored (saidRecord r) counts (λ m. countsIn parts b)
+  pub xy-are : xy′ ≡ stored (saidRecord r) xy (λ m. xyIn parts b)
+  pub z-are : zs′ ≡ stored (saidRecord r) zs (λ m. zIn parts z b)
+  pub m-are : ms′ ≡ stored (saidRecord r) ms (λ m. mIn parts z m b)
 
 -- a body whose size is judged
-unfoldable pub restFrom : ℤ → Bool → Bool → List ℕ → ℕ → ℕ → ℕ → ℕ → Said Shaped
-restFrom code z m b counts xy zs ms = andThen (moved (bodyOf z m b counts xy zs ms)) (λ body. gives (partsShape code m body))
+unfoldable pub restFrom : ℤ → Bool → Bool → Bool → List ℕ → ℕ → ℕ → ℕ → ℕ → Said Shaped
+restFrom code parts z m b counts xy zs ms = andThen (moved (bodyOf parts z m b counts xy zs ms)) (λ body. gives (severalShape parts code m body))
 
 -- a body whose size is not
-unfoldable pub partsFrom : ℤ → Kind → Bytes → List ℕ → ℕ → ℕ → ℕ → ℕ → Said Shaped
-partsFrom code k size b counts xy zs ms =
-    andThen (moved (countsOf b)) (λ t. cond (sizeRight k size t) (restFrom code (k .z) (hasM k size t) b counts xy zs ms) (wrongSize 0))
+unfoldable pub severalFrom : ℤ → Kind → Bytes → List ℕ → ℕ → ℕ → ℕ → ℕ → Said Shaped
+severalFrom code k size b counts xy zs ms =
+    andThen (moved (countsOf (k .parts) b))
+    (λ t. cond (sizeRight k size t) (restFrom code (k .parts) (k .z) (hasM k size t) b counts xy zs ms) (wrongSize 0))

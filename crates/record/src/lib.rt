@@ -1,4 +1,4 @@
-// Reading a record: dispatch by kind, Null, points, and bodies with parts.
+// Reading a record: dispatch by kind, Null, points, and bodies of several points, as a multipoint or in parts.
 ghost use lib.ListN.{length, drop};
 ghost use Rattle.format.specs.Lengths.{formOf};
 ghost use Rattle.record.specs.Reading.{byForm, ReadsRecord};
@@ -10,8 +10,8 @@ use front::Front;
 use multipart::Body;
 
 mod front;
-mod parts;
 mod points;
+mod several;
 mod sizes;
 
 // The kind that a typed read wants; `Any` takes each taken one.
@@ -29,10 +29,11 @@ pub struct Point {
     pub m: f64,
 }
 
-// What was read, with the kind's code; for a shape with parts also whether it has m.
+// What was read, with the kind's code; for several points also whether they have m.
 pub enum RecordAnswer {
     Null,
     Point(i32, Point),
+    Multipoint(i32, bool, Body),
     Parts(i32, bool, Body),
     Short(usize, usize),
     Size(usize),
@@ -54,14 +55,14 @@ fn read_shape(
     ms: &mut [f64],
 ) -> RecordAnswer
     requires { ⌜ Takes size (now s) k l ⌝ }
-    ensures { λ r. ⌜ Reads (byForm (formOf k) k size (now (s .entry)) (length (now (counts .entry))) (length (now (xy .entry))) (length (now (zs .entry))) (length (now (ms .entry)))) (k .z) (drop 4 (now (s .entry))) (now (counts .entry)) (now (xy .entry)) (now (zs .entry)) (now (ms .entry)) r (now (counts .exit)) (now (xy .exit)) (now (zs .exit)) (now (ms .exit)) ⌝ }
+    ensures { λ r. ⌜ Reads (byForm (formOf k) k size (now (s .entry)) (length (now (counts .entry))) (length (now (xy .entry))) (length (now (zs .entry))) (length (now (ms .entry)))) (k .parts) (k .z) (drop 4 (now (s .entry))) (now (counts .entry)) (now (xy .entry)) (now (zs .entry)) (now (ms .entry)) r (now (counts .exit)) (now (xy .exit)) (now (zs .exit)) (now (ms .exit)) ⌝ }
 {
     if k.code == 0 {
         return RecordAnswer::Null;
     }
     let code = fields::le_i32_at(s, 0);
-    if k.parts {
-        parts::read_parts(code, k, l, size, &s[4..], counts, xy, zs, ms)
+    if format::lengths::has_several(k) {
+        several::read_several(code, k, l, size, &s[4..], counts, xy, zs, ms)
     } else {
         points::read_point(s, code, k, l, size)
     }

@@ -1,6 +1,6 @@
 // Sizes in bytes against the table's formulas in words.
 ghost use mathlib.Core.Path.{_≡_};
-ghost use Rattle.format.specs.Lengths.{parts, lengthsFor, formulaWords};
+ghost use Rattle.format.specs.Lengths.{severalForm, lengthsFor, formulaWords};
 ghost use Rattle.record.specs.Reading.{isWords};
 ghost use Rattle.record.specs.Steps.{Held, two, Sizes};
 use format::kinds::Kind;
@@ -9,7 +9,7 @@ use format::lengths::Lengths;
 use format::units::Bytes;
 use format::units::InWords;
 
-// Which of the two formulas of a kind with parts a size is.
+// Which of the two formulas of a kind with several points a size is.
 pub enum Sized {
     Without,
     With,
@@ -29,7 +29,7 @@ pub(crate) fn has_words(size: Bytes, f: Formula, p: u32, n: u32) -> bool
 
 // With m only where the kind has m.
 pub(crate) fn judge_size(size: Bytes, k: Kind, l: Lengths, p: u32, n: u32) -> Sized
-    requires { ⌜ (Held size) × (l ≡ lengthsFor k parts) ⌝ }
+    requires { ⌜ (Held size) × (l ≡ lengthsFor k (severalForm (k .parts))) ⌝ }
     ensures { λ r. ⌜ Sizes k size (two p n) r ⌝ }
 {
     let with = l.with;

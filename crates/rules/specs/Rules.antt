@@ -10,7 +10,7 @@ use lib.ListN.{length, drop, replicate}
 use Rattle.format.specs.declared.kinds.Kind.{Kind}
 use Rattle.format.specs.Bytes.{le, be, field}
 use Rattle.format.specs.Kinds.{nullKind, kindAt}
-use Rattle.format.specs.Lengths.{Form, nothing, onePoint, parts, formOf, mayLackM, contentWords}
+use Rattle.format.specs.Lengths.{Form, nothing, onePoint, manyPoints, parts, formOf, several, mayLackM, frontWords, contentWords}
 use Rattle.format.specs.Numbers.{finite}
 use Rattle.format.specs.Order.{first}
 use Rattle.format.specs.Said.{Said, gives, fault}
@@ -104,11 +104,13 @@ wordsOf l = bigAt 4 l
 abbrev pub partsOf : Form → List ℕ → ℕ
 partsOf nothing l = 0
 partsOf onePoint l = 0
+partsOf manyPoints l = 0
 partsOf parts l = littleAt 44 l
 
 abbrev pub pointsOf : Form → List ℕ → ℕ
 pointsOf nothing l = 0
 pointsOf onePoint l = 1
+pointsOf manyPoints l = littleAt 44 l
 pointsOf parts l = littleAt 48 l
 
 abbrev pub P9 : List ℕ → ℕ → Bool
@@ -168,9 +170,9 @@ unfoldable pub ringsClosed : ℕ → ℕ → ℕ → ℕ → ℕ → List ℕ �
 ringsClosed pts zero at cur n l = true
 ringsClosed pts (suc r) at cur n l = ringClosed pts cur (endOf r at l n) l && ringsClosed pts r (at + 4) (endOf r at l n) n l
 
--- where the points stand, behind the record's header, the kind's field, the box, the counts and the starts
-abbrev pub pairsAt : List ℕ → ℕ
-pairsAt l = 52 + 4 * littleAt 44 l
+-- where the points stand, behind the record's header and the words in front of them
+unfoldable pub pairsAt : Form → List ℕ → ℕ
+pairsAt form l = 8 + 2 * frontWords form (partsOf form l)
 
 abbrev pub P14 : Taken → List ℕ → Bool
 P14 t l = partsRule (t .form)
@@ -178,20 +180,23 @@ P14 t l = partsRule (t .form)
     partsRule : Form → Bool
     partsRule nothing = true
     partsRule onePoint = true
+    partsRule manyPoints = leb 1 (littleAt 44 l)
     partsRule parts =
         leb 1 (littleAt 44 l) && eqb (littleAt 52 l) 0 && partsLong (leastPoints (t .kind)) (littleAt 44 l) 56 0 (littleAt 48 l) l
 
 abbrev pub P15 : Taken → List ℕ → Bool
-P15 t l = cond (hasRings (t .kind)) (ringsClosed (pairsAt l) (littleAt 44 l) 56 0 (littleAt 48 l) l) true
+P15 t l = cond (hasRings (t .kind)) (ringsClosed (pairsAt (t .form) l) (littleAt 44 l) 56 0 (littleAt 48 l) l) true
 
--- all doubles of the content: those in front of the counts, and those behind the starts
+-- the doubles of the box, where there is one, and those from the points on
+abbrev pub boxDoubles : Form → ℕ
+boxDoubles form = cond (several form) 4 0
+
+abbrev pub pointDoubles : Form → List ℕ → ℕ
+pointDoubles form l = (wordsOf l - frontWords form (partsOf form l)) / 4
+
+-- all doubles of the content
 abbrev pub P16 : Taken → List ℕ → Bool
-P16 t l = doublesRule (t .form)
-  where
-    doublesRule : Form → Bool
-    doublesRule nothing = true
-    doublesRule onePoint = finites ((wordsOf l - 2) / 4) 12 l
-    doublesRule parts = finites 4 12 l && finites ((wordsOf l - 22 - 2 * littleAt 44 l) / 4) (pairsAt l) l
+P16 t l = finites (boxDoubles (t .form)) 12 l && finites (pointDoubles (t .form) l) (pairsAt (t .form) l) l
 
 -- what the content has to meet
 abbrev pub contentRules : Taken → List ℕ → List (Bool × ℕ)

@@ -12,14 +12,14 @@ use lib.Seq.{sets}
 use Rattle.format.specs.declared.kinds.Kind.{Kind}
 use Rattle.format.specs.Encoding.{recordBytes, entryBytes, shapeWords}
 use Rattle.format.specs.Kinds.{known, kind, kindAt, kindOr}
-use Rattle.format.specs.Lengths.{Form, nothing, onePoint, parts, formAt}
+use Rattle.format.specs.Lengths.{Form, nothing, onePoint, manyPoints, parts, formAt}
 use Rattle.format.specs.Order.{first}
 use Rattle.format.specs.Said.{Said, gives, wrongSize, unknown, notTaken, mismatch, tables, long, roomBytes, unlessRefused}
-use Rattle.format.specs.Shapes.{Shape, null, point, parted, there}
+use Rattle.format.specs.Shapes.{Shape, null, point, multipoint, parted, there}
 use Rattle.format.specs.Units.{sameInt}
 use Rattle.header.specs.declared.bbox.BBoxZ.{BBoxZ}
 use Rattle.layouts.specs.Answers.{agree, countsHeld}
-use Rattle.layouts.specs.Tables.{bits, pointsOf, partsOf}
+use Rattle.layouts.specs.Tables.{bits, pointsOf, multipointOf, partsOf}
 use Rattle.writer.specs.declared.State.{State}
 use Rattle.writer.specs.declared.AddAnswer.{AddAnswer}
 use Rattle.writer.specs.declared.AddAnswer.the-variants.{Added, Size, Unknown, NotTaken, Mismatch, Tables, Long, Room}
@@ -71,6 +71,7 @@ lentShape t = made (lentForm t)
     made : Form → Shape
     made nothing = null
     made onePoint = pointShape (lentKind t) (t .xy) (t .zs) (t .ms)
+    made manyPoints = multipoint (multipointOf (lentKind t .z) (lentKind t .m) (t .box) (t .xy) (t .zs) (t .ms))
     made parts = parted (partsOf (lentKind t .z) (lentKind t .m) (t .box) (t .counts) (t .xy) (t .zs) (t .ms))
 
 -- ---- the tests
@@ -90,7 +91,8 @@ lentAgree t = by-form (lentForm t)
     by-form : Form → Bool
     by-form nothing = nullAgrees t
     by-form onePoint = pointAgrees (lentKind t) t
-    by-form parts = agree (lentKind t .z) (lentKind t .m) (t .counts) (t .xy) (t .zs) (t .ms)
+    by-form manyPoints = agree false (lentKind t .z) (lentKind t .m) (t .counts) (t .xy) (t .zs) (t .ms)
+    by-form parts = agree true (lentKind t .z) (lentKind t .m) (t .counts) (t .xy) (t .zs) (t .ms)
 
 -- the words of the file with the record
 abbrev pub wordsThen : State → Lent → ℕ
@@ -98,7 +100,7 @@ wordsThen s t = natAbs (s .words .0) + (4 + shapeWords (lentShape t))
 
 -- an i32 holds the counts and the file's words
 abbrev pub heldThen : State → Lent → Bool
-heldThen s t = countsHeld (t .counts) && ltb (wordsThen s t) (2 ^ 31)
+heldThen s t = countsHeld (lentKind t .parts) (t .counts) (t .xy) && ltb (wordsThen s t) (2 ^ 31)
 
 -- the bytes of the record, and those that its buffer has to have: at most the largest usize
 abbrev pub recordSize : Lent → ℕ
@@ -140,15 +142,17 @@ entryOf s t = entryBytes (record { offset = natAbs (s .words .0); words = shapeW
 abbrev pub heldBox : State → BBoxZ
 heldBox s = cond (isZero (s .kind)) startBox (s .bbox)
 
--- the kind and the box behind the record: points give their own values, parts kinds the given box and ranges, and Null leaves both as they were
+-- the kind and the box behind the record: a point gives its own values, several points the given box and ranges, and Null leaves both as they were
 abbrev pub kindThen : Form → State → Lent → ℤ
 kindThen nothing s t = s .kind
 kindThen onePoint s t = t .code
+kindThen manyPoints s t = t .code
 kindThen parts s t = t .code
 
 abbrev pub boxThen : Form → State → Lent → BBoxZ
 boxThen nothing s t = s .bbox
 boxThen onePoint s t = grown (flat (lentKind t) (pointBox (t .xy) (t .zs) (t .ms))) (heldBox s)
+boxThen manyPoints s t = grown (flat (lentKind t) (t .box)) (heldBox s)
 boxThen parts s t = grown (flat (lentKind t) (t .box)) (heldBox s)
 
 unfoldable pub nextState : State → Lent → State

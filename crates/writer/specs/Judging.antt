@@ -3,7 +3,7 @@ use mathlib.Core.Path.{_≡_}
 use mathlib.Core.Bool.{Bool, true, false, cond, _&&_, _||_, not}
 use mathlib.Core.List.{List, _++_}
 use mathlib.Core.Option.{Option, none, some}
-use Prim.Native.Nat.{ℕ, _+_, _*_, _-_, _^_, _≤_, _<_, min}
+use Prim.Native.Nat.{ℕ, _+_, _*_, _-_, _/_, _^_, _≤_, _<_, min}
 use lib.Dec.{leb, ltb, eqb}
 use lib.Ieee.{Float}
 use lib.IntN.{ℤ, pos, negsuc, natAbs, _+ℤ_}
@@ -16,14 +16,14 @@ use Rattle.format.specs.declared.units.Words.{Words}
 use Rattle.format.specs.declared.units.Bytes.{Bytes}
 use Rattle.format.specs.Kinds.{kindAt}
 use Rattle.format.specs.Encoding.{shapeWords}
-use Rattle.format.specs.Lengths.{Form, nothing, onePoint, parts, formOf, formula, contentWords, formAt, formulaWords}
+use Rattle.format.specs.Lengths.{Form, nothing, onePoint, manyPoints, parts, isMultipoint, hasSeveral, formOf, formula, contentWords, formAt, formulaWords}
 use Rattle.format.specs.Order.{first}
 use Rattle.format.specs.Said.{Said, gives}
-use Rattle.format.specs.Shapes.{Shape, null, parted, sum}
+use Rattle.format.specs.Shapes.{Shape, null, sum}
 use Rattle.format.specs.Units.{inBytes}
 use Rattle.header.specs.declared.bbox.BBoxZ.{BBoxZ}
 use Rattle.layouts.specs.Answers.{countsHeld}
-use Rattle.layouts.specs.Tables.{partsOf}
+use Rattle.layouts.specs.Tables.{severalOf}
 use Rattle.writer.specs.declared.State.{State}
 use Rattle.writer.specs.declared.AddAnswer.{AddAnswer}
 use Rattle.writer.specs.declared.AddAnswer.the-variants as AddIs
@@ -88,36 +88,36 @@ abbrev pub countsFine : ℕ → ℕ → Bool → Bool
 countsFine words number first =
     leb 50 words && (leb 1 number && (leb (50 + 6 * (number - 1)) words && (not first || (eqb words 50 && eqb number 1))))
 
--- ---- a taken kind has parts, nothing or one point; by it the shape, its points and its words
+-- ---- a taken kind has parts, nothing, any number of points or one; by it the shape, its points and its words
 
 abbrev pub formBy : Kind → Form
-formBy k = cond (k .parts) parts (cond (eqb (k .code) 0) nothing onePoint)
+formBy k = cond (k .parts) parts (cond (eqb (k .code) 0) nothing (cond (isMultipoint k) manyPoints onePoint))
 
--- the points of a shape without parts
-abbrev pub single : Kind → ℕ
-single k = cond (eqb (k .code) 0) 0 1
+-- the points of a shape without parts, for so many doubles of xy
+abbrev pub pointsAlone : Kind → ℕ → ℕ
+pointsAlone k xy = cond (eqb (k .code) 0) 0 (cond (isMultipoint k) (xy / 2) 1)
 
-abbrev pub pointsBy : Kind → List ℕ → ℕ
-pointsBy k counts = cond (k .parts) (sum counts) (single k)
+abbrev pub pointsBy : Kind → List ℕ → ℕ → ℕ
+pointsBy k counts xy = cond (k .parts) (sum counts) (pointsAlone k xy)
 
--- the same; one more than the most, where it is more or where the counts are no such shape's
+-- the same; more than xy has doubles, where the counts sum to more or are no such shape's
 abbrev pub pointsWithin : Kind → List ℕ → ℕ → ℕ
-pointsWithin k counts most = cond (k .parts) (min (sum counts) (most + 1)) (cond (eqb (length counts) 0) (single k) (most + 1))
+pointsWithin k counts xy = cond (k .parts) (min (sum counts) (xy + 1)) (cond (eqb (length counts) 0) (pointsAlone k xy) (xy + 1))
 
 abbrev pub agreeBy : Kind → List ℕ → List Float → List Float → List Float → Bool
 agreeBy k counts xy zs ms =
     (k .parts || eqb (length counts) 0)
-    && eqb (length xy) (2 * pointsBy k counts)
-    && eqb (length zs) (cond (k .z) (pointsBy k counts) 0)
-    && eqb (length ms) (cond (k .m) (pointsBy k counts) 0)
+    && eqb (length xy) (2 * pointsBy k counts (length xy))
+    && eqb (length zs) (cond (k .z) (pointsBy k counts (length xy)) 0)
+    && eqb (length ms) (cond (k .m) (pointsBy k counts (length xy)) 0)
 
 abbrev pub shapeBy : Kind → BBoxZ → List ℕ → List Float → List Float → List Float → Shape
 shapeBy k b counts xy zs ms =
-    cond (k .parts) (parted (partsOf (k .z) (k .m) b counts xy zs ms))
+    cond (hasSeveral k) (severalOf (k .parts) (k .z) (k .m) b counts xy zs ms)
     (cond (eqb (k .code) 0) null (pointShape k xy zs ms))
 
-abbrev pub wordsBy : Kind → List ℕ → ℕ
-wordsBy k counts = contentWords (formBy k) (k .z) (k .m) (length counts) (pointsBy k counts)
+abbrev pub wordsBy : Kind → List ℕ → List Float → ℕ
+wordsBy k counts xy = contentWords (formBy k) (k .z) (k .m) (length counts) (pointsBy k counts (length xy))
 
 -- ---- the judges
 
@@ -151,7 +151,7 @@ JudgesKind s code (KindIs.Fine k f) = KindFine s code k f
 JudgesKind s code (KindIs.Refused a) = KindRefused s code a
 
 abbrev pub tablesJudged : Kind → List ℕ → List Float → List Float → List Float → TablesJudged
-tablesJudged k counts xy zs ms = cond (agreeBy k counts xy zs ms) (Agree (pointsBy k counts)) Disagree
+tablesJudged k counts xy zs ms = cond (agreeBy k counts xy zs ms) (Agree (pointsBy k counts (length xy))) Disagree
 
 abbrev pub lengthJudged : Words → Formula → ℕ → ℕ → LengthJudged
 lengthJudged words f p n =
@@ -164,7 +164,7 @@ roomJudged size out start entry = cond (leb (start + size) out) (cond (leb 8 ent
 pub record Passed (s : State) (t : Lent) (out start entry : ℕ) (k : Kind) (w after : Words) (size : Bytes) : Type 0 where
   pub of-code : OfCode (t .code) k
   pub agrees : agreeBy k (t .counts) (t .xy) (t .zs) (t .ms) ≡ true
-  pub counts-held : countsHeld (t .counts) ≡ true
+  pub counts-held : countsHeld (k .parts) (t .counts) (t .xy) ≡ true
   pub held : wordsThen s t < 2 ^ 31
   pub words-are : w ≡ wordsOf (shapeWords (lentShape t))
   pub after-is : after ≡ wordsOf (wordsThen s t)
@@ -198,10 +198,9 @@ Judges s t out start entry (JudgedIs.Refused a) = AllRefused s t out start entry
 
 -- what the body's writer asks: the tables agree, an i32 holds the counts, and there is room
 pub record Ready (k : Kind) (counts : List ℕ) (xy zs ms : List Float) (bytes : ℕ) : Type 0 where
-  pub z-has-m : k .z ≡ true → k .m ≡ true
   pub agrees : agreeBy k counts xy zs ms ≡ true
-  pub counts-held : countsHeld counts ≡ true
-  pub room : 2 * wordsBy k counts ≤ 4 + bytes
+  pub counts-held : countsHeld (k .parts) counts xy ≡ true
+  pub room : 2 * wordsBy k counts xy ≤ 4 + bytes
 
 -- the kind behind the record
 abbrev pub kindBy : State → ℤ → ℤ
@@ -209,7 +208,7 @@ kindBy s code = cond (isZero code) (s .kind) code
 
 -- the box that a record other than Null gives to the header, and the header's box behind the record
 abbrev pub ownBy : Kind → BBoxZ → List Float → List Float → List Float → BBoxZ
-ownBy k b xy zs ms = flat k (cond (k .parts) b (pointBox xy zs ms))
+ownBy k b xy zs ms = flat k (cond (hasSeveral k) b (pointBox xy zs ms))
 
 abbrev pub boxBy : State → ℤ → Kind → BBoxZ → List Float → List Float → List Float → BBoxZ
 boxBy s code k b xy zs ms = cond (isZero code) (s .bbox) (grown (ownBy k b xy zs ms) (heldBox s))

@@ -95,18 +95,26 @@ fn summed(counts: &[u32], most: usize) -> usize
     total
 }
 
-// The points of the shape: without parts a Null has none and a point kind one. More than the most, where the counts are no such shape's.
-fn points(k: Kind, counts: &[u32], most: usize) -> usize
-    requires { ⌜ most < 2 ^ 62 ⌝ }
-    ensures { λ r. ⌜ r ≡ pointsWithin k (now (counts .entry)) most ⌝ }
+// The points of the shape, for so many doubles of xy: without parts a Null has none, a multipoint one for each pair and a point kind one. More than
+// there are doubles, where the counts are no such shape's.
+fn points(k: Kind, counts: &[u32], xy: usize) -> usize
+    requires { ⌜ xy < 2 ^ 62 ⌝ }
+    ensures { λ r. ⌜ r ≡ pointsWithin k (now (counts .entry)) xy ⌝ }
 {
     if k.parts {
-        return summed(counts, most);
+        return summed(counts, xy);
     }
     if counts.len() != 0 {
-        return most + 1;
+        return xy + 1;
     }
-    if k.code == 0 { 0 } else { 1 }
+    if k.code == 0 {
+        return 0;
+    }
+    if format::lengths::has_several(k) {
+        xy / 2
+    } else {
+        1
+    }
 }
 
 // The number where the flag is set, else 0.

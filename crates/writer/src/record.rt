@@ -58,23 +58,15 @@ fn put_body(
     requires { ⌜ Ready k (now counts) (now xy) (now zs) (now ms) (length (now out)) ⌝ }
     ensures { λ _. ⌜ now (out .exit) ≡ sets (now (out .entry)) 0 (shapeBytes (shapeBy k bbox (now (counts .entry)) (now (xy .entry)) (now (zs .entry)) (now (ms .entry)))) ⌝ }
 {
-    if !k.parts {
-        // a Null's content is its kind alone
-        if k.code == 0 {
-            return;
-        }
-        put_point(out, xy, zs, ms);
+    if format::lengths::has_several(k) {
+        layouts::write_body(out, k.parts, k.z, k.m, bbox, counts, xy, zs, ms);
         return;
     }
-    if k.z {
-        layouts::write_point_z_shape(out, bbox, counts, xy, zs, ms);
+    // a Null's content is its kind alone
+    if k.code == 0 {
         return;
     }
-    if k.m {
-        layouts::write_point_m_shape(out, bbox, counts, xy, ms);
-        return;
-    }
-    layouts::write_point_shape(out, bbox, counts, xy);
+    put_point(out, xy, zs, ms);
 }
 
 // The whole record at the front of the output.
@@ -91,9 +83,9 @@ pub(crate) fn put_record(
     ms: &[f64],
 )
     requires { ⌜ Ready k (now counts) (now xy) (now zs) (now ms) (length (now out)) ⌝ }
-    requires { ⌜ 8 + 2 * wordsBy k (now counts) ≤ length (now out) ⌝ }
+    requires { ⌜ 8 + 2 * wordsBy k (now counts) (now xy) ≤ length (now out) ⌝ }
     requires { ⌜ code ≡ pos (k .code) ⌝ }
-    requires { ⌜ content ≡ wordsOf (wordsBy k (now counts)) ⌝ }
+    requires { ⌜ content ≡ wordsOf (wordsBy k (now counts) (now xy)) ⌝ }
     ensures { λ _. ⌜ now (out .exit) ≡ sets (now (out .entry)) 0 (recordBytes k (ofZ w32 number) (shapeBy k bbox (now (counts .entry)) (now (xy .entry)) (now (zs .entry)) (now (ms .entry)))) ⌝ }
 {
     put_header(out, number, content);
@@ -105,7 +97,7 @@ pub(crate) fn put_record(
 fn own_box(k: Kind, bbox: BBoxZ, xy: &[f64], zs: &[f64], ms: &[f64]) -> BBoxZ
     ensures { λ r. ⌜ r ≡ ownBy k bbox (now (xy .entry)) (now (zs .entry)) (now (ms .entry)) ⌝ }
 {
-    if k.parts {
+    if format::lengths::has_several(k) {
         return crate::boxes::flat_box(k, bbox);
     }
     crate::boxes::flat_box(k, crate::boxes::point_box(xy, zs, ms))
