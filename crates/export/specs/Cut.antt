@@ -20,8 +20,8 @@ pub data Call : Type 0 where
   readHeader : Call
   readRecordHeader : Call
   readIndexEntry : Call
-  readCounts : Call
-  readBody : (z m : Bool) (counts xy zs ms : ℕ) → Call
+  readCounts : (parts : Bool) → Call
+  readBody : (parts z m : Bool) (counts xy zs ms : ℕ) → Call
   readRecord : (wanted : Wanted) (size : Bytes) (counts xy zs ms : ℕ) → Call
 
 -- its refusal of these bytes
@@ -29,8 +29,8 @@ abbrev pub refusalFrom : Call → List ℕ → Refusal
 refusalFrom readHeader s = refusalOf (headerOf s)
 refusalFrom readRecordHeader s = refusalOf (twoOf recordHeader s)
 refusalFrom readIndexEntry s = refusalOf (twoOf shapeIndex s)
-refusalFrom readCounts s = refusalOf (countsOf s)
-refusalFrom (readBody z m counts xy zs ms) s = refusalOf (bodyOf z m s counts xy zs ms)
+refusalFrom (readCounts parts) s = refusalOf (countsOf parts s)
+refusalFrom (readBody parts z m counts xy zs ms) s = refusalOf (bodyOf parts z m s counts xy zs ms)
 refusalFrom (readRecord wanted size counts xy zs ms) s = refusalOf (recordOf wanted size s counts xy zs ms)
 
 -- how wide the field at a place of them is
@@ -38,8 +38,8 @@ abbrev pub widthAt : Call → List ℕ → ℕ → ℕ
 widthAt readHeader s at = headerWidth at
 widthAt readRecordHeader s at = 4
 widthAt readIndexEntry s at = 4
-widthAt readCounts s at = bodyWidth s at
-widthAt (readBody z m counts xy zs ms) s at = bodyWidth s at
+widthAt (readCounts parts) s at = bodyWidth parts s at
+widthAt (readBody parts z m counts xy zs ms) s at = bodyWidth parts s at
 widthAt (readRecord wanted size counts xy zs ms) s at = contentWidth (formAt (codeIn s)) s at
 
 -- the bytes end inside the field that the refusal names: what it counts are the last of the bytes, and fewer than the field has

@@ -1,19 +1,18 @@
 -- A record read: the refusal, the shape, and what the stores then hold.
 use mathlib.Core.Path.{_≡_}
-use mathlib.Core.Bool.{Bool, cond}
+use mathlib.Core.Bool.{cond}
 use mathlib.Core.List.{List}
 use Prim.Native.Nat.{ℕ}
 use lib.Ieee.{Float}
 use lib.IntN.{ℤ, pos}
 use lib.ListN.{length, drop}
 use Rattle.format.specs.declared.units.Bytes.{Bytes}
-use Rattle.format.specs.Kinds.{kindAt, kindOr}
 use Rattle.format.specs.Said.{Said}
 use Rattle.multipart.specs.declared.Body.{Body}
 use Rattle.multipart.specs.Body.{noRange, countsIn, xyIn, zIn, mIn}
 use Rattle.record.specs.declared.Point.{Point}
 use Rattle.record.specs.declared.Wanted.{Wanted}
-use Rattle.record.specs.Reading.{Shaped, nullShape, pointShape, partsShape, codeIn, recordOf, stored}
+use Rattle.record.specs.Reading.{Shaped, nullShape, pointShape, multipointShape, partsShape, kindIn, recordOf, stored}
 use Rattle.writer.specs.Boxes.{zeroDouble}
 use Rattle.export.specs.declared.records.RecordRead.{RecordRead}
 use Rattle.export.specs.declared.refusals.Refusal.{Refusal}
@@ -34,7 +33,7 @@ zeroBody =
       points = 0;
     }
 
--- the form is 0 for Null, 1 for a point and 2 for parts; what a form does not have is zeros
+-- the form is 0 for Null, 1 for a point, 2 for parts and 3 for a multipoint; what a form does not have is zeros
 abbrev pub shapeRead : Refusal → Shaped → RecordRead
 shapeRead refusal nullShape =
     record { refusal = refusal; code = pos 0; form = 0; «has_m» = 0; point = zeroPoint; body = zeroBody }
@@ -42,6 +41,8 @@ shapeRead refusal (pointShape code point) =
     record { refusal = refusal; code = code; form = 1; «has_m» = 0; point = point; body = zeroBody }
 shapeRead refusal (partsShape code m body) =
     record { refusal = refusal; code = code; form = 2; «has_m» = cond m 1 0; point = zeroPoint; body = body }
+shapeRead refusal (multipointShape code m body) =
+    record { refusal = refusal; code = code; form = 3; «has_m» = cond m 1 0; point = zeroPoint; body = body }
 
 -- a refusal has the zeros of a Null record
 abbrev pub recordRead : Said Shaped → RecordRead
@@ -56,12 +57,9 @@ asBytes size = record { 0 = size }
 abbrev pub saidOf : Wanted → ℤ → List ℕ → List ℕ → List Float → List Float → List Float → Said Shaped
 saidOf wanted size s counts xy zs ms = recordOf wanted (asBytes size) s (length counts) (length xy) (length zs) (length ms)
 
-abbrev pub hasZ : List ℕ → Bool
-hasZ s = kindOr (kindAt (codeIn s)) .z
-
 pub record Reads (wanted : Wanted) (size : ℤ) (s counts : List ℕ) (xy zs ms : List Float) (r : RecordRead) (counts′ : List ℕ) (xy′ zs′ ms′ : List Float) : Type 0 where
   pub answer-is : r ≡ recordRead (saidOf wanted size s counts xy zs ms)
-  pub counts-are : counts′ ≡ stored (saidOf wanted size s counts xy zs ms) counts (λ m. countsIn (drop 4 s))
-  pub xy-are : xy′ ≡ stored (saidOf wanted size s counts xy zs ms) xy (λ m. xyIn (drop 4 s))
-  pub z-are : zs′ ≡ stored (saidOf wanted size s counts xy zs ms) zs (λ m. zIn (hasZ s) (drop 4 s))
-  pub m-are : ms′ ≡ stored (saidOf wanted size s counts xy zs ms) ms (λ m. mIn (hasZ s) m (drop 4 s))
+  pub counts-are : counts′ ≡ stored (saidOf wanted size s counts xy zs ms) counts (λ m. countsIn (kindIn s .parts) (drop 4 s))
+  pub xy-are : xy′ ≡ stored (saidOf wanted size s counts xy zs ms) xy (λ m. xyIn (kindIn s .parts) (drop 4 s))
+  pub z-are : zs′ ≡ stored (saidOf wanted size s counts xy zs ms) zs (λ m. zIn (kindIn s .parts) (kindIn s .z) (drop 4 s))
+  pub m-are : ms′ ≡ stored (saidOf wanted size s counts xy zs ms) ms (λ m. mIn (kindIn s .parts) (kindIn s .z) m (drop 4 s))

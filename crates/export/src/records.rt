@@ -13,7 +13,7 @@ use record::Point;
 use record::RecordAnswer;
 use record::Wanted;
 
-// The form is 0 for Null, 1 for a point and 2 for a shape with parts; has_m is 1 where such a shape has m.
+// The form is 0 for Null, 1 for a point, 2 for a shape with parts and 3 for a multipoint; has_m is 1 where one of the last two has m.
 #[repr(C)]
 pub struct RecordRead {
     pub refusal: Refusal,
@@ -84,6 +84,14 @@ fn record_read(a: RecordAnswer) -> RecordRead
             has_m: 0,
             point,
             body: no_body(),
+        },
+        RecordAnswer::Multipoint(code, m, body) => RecordRead {
+            refusal: refusals::none(),
+            code,
+            form: 3,
+            has_m: m as u32,
+            point: no_point(),
+            body,
         },
         RecordAnswer::Parts(code, m, body) => RecordRead {
             refusal: refusals::none(),

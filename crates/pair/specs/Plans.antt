@@ -7,7 +7,7 @@ use lib.IntN.{pos, natAbs}
 use mir.Syntax.{w32}
 use mir.Val.{toZ}
 use Rattle.format.specs.declared.units.Words.{Words}
-use Rattle.format.specs.Lengths.{Form, nothing, onePoint, parts, lengthsFor}
+use Rattle.format.specs.Lengths.{Form, nothing, onePoint, manyPoints, parts, several, frontWords, lengthsFor}
 use Rattle.format.specs.WellFormed.{hasRings, leastPoints}
 use Rattle.rules.specs.Rules.{Taken}
 use Rattle.pair.specs.declared.plans.Plan.{Plan}
@@ -31,20 +31,24 @@ Whole words = words .0 ≡ pos (natAbs (words .0))
 abbrev pub hasParts : Form → Bool
 hasParts nothing = false
 hasParts onePoint = false
+hasParts manyPoints = false
 hasParts parts = true
 
--- the points of a record without parts
+-- the points of a record that does not say how many
 abbrev pub pointsAlone : Form → ℕ
 pointsAlone nothing = 0
 pointsAlone onePoint = 1
+pointsAlone manyPoints = 1
 pointsAlone parts = 1
 
 abbrev pub planFor : Taken → Plan
 planFor t =
     record {
       kind = t .kind;
+      several = several (t .form);
       parts = hasParts (t .form);
       points = pointsAlone (t .form);
+      front = frontWords (t .form) 0;
       rings = hasRings (t .kind);
       least = leastPoints (t .kind);
       lengths = lengthsFor (t .kind) (t .form);
@@ -60,4 +64,4 @@ alone zero = nothing
 alone (suc n) = onePoint
 
 abbrev pub takenFrom : Plan → Taken
-takenFrom plan = record { kind = plan .kind; form = cond (plan .parts) parts (alone (plan .points)) }
+takenFrom plan = record { kind = plan .kind; form = cond (plan .parts) parts (cond (plan .several) manyPoints (alone (plan .points))) }

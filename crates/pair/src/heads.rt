@@ -181,28 +181,34 @@ fn measures(lengths: Lengths, p: usize, n: usize, words: Words) -> bool
     format::lengths::comes_to(with, p as u32, n as u32, words)
 }
 
-// P13: the counts are not negative, and the length is one that they give. With parts, too few words for the counts fit no formula.
+// P13: the counts are not negative, and the length is one that they give. Too few words for the counts fit no formula.
 pub(crate) fn sized(plan: Plan, shp: &[u8], at: usize) -> bool
     requires { ⌜ (plan ≡ planFor (takenFrom plan)) × (at + 8 + 2 * bigAt (at + 4) (now shp) ≤ length (now shp)) × (bigAt (at + 4) (now shp) < 2 ^ 31) ⌝ }
     ensures { λ r. ⌜ r ≡ P13 (takenFrom plan) (drop at (now (shp .entry))) ⌝ }
 {
     let words = words_at(shp, at + 4);
     let lengths = plan.lengths;
-    if !plan.parts {
+    if !plan.several {
         return measures(lengths, 0, plan.points, words);
     }
-    if words.0 < 22 {
+    if words.0 < 20 {
         return false;
     }
-    let p = little(shp, at + 44);
-    if p >= 0x8000_0000 {
+    let count = little(shp, at + 44);
+    if count >= 0x8000_0000 {
+        return false;
+    }
+    if !plan.parts {
+        return measures(lengths, 0, count, words);
+    }
+    if words.0 < 22 {
         return false;
     }
     let n = little(shp, at + 48);
     if n >= 0x8000_0000 {
         return false;
     }
-    measures(lengths, p, n, words)
+    measures(lengths, count, n, words)
 }
 
 // The first of P9 to P12 that record k breaks; 0 for none.

@@ -71,8 +71,8 @@ fn walk(plan: Plan, null: Plan, shp: &[u8], shx: &[u8]) -> Verdict
         let words = leaves::words_at(shp, at + 4);
         let p = plans::parts_at(own, shp, at);
         let n = plans::points_at(own, shp, at);
-        // P14: there is a part, the first one starts at point 0, and each has points enough
-        if !plans::begins(own, shp, at, p) {
+        // P14: there is a part, the first one starts at point 0, and each has points enough; a multipoint has a point
+        if !plans::begins(own, shp, at, p, n) {
             break 'walk Verdict::No {
                 rule: 14,
                 record: k,
@@ -94,7 +94,8 @@ fn walk(plan: Plan, null: Plan, shp: &[u8], shx: &[u8]) -> Verdict
             start += 4;
         }
         // P15: the rings among them are closed
-        let pairs = at + 52 + 4 * p;
+        let front = own.front + 2 * p;
+        let pairs = at + 8 + 2 * front;
         let mut next = at + 56;
         let mut rings = plans::rings_in(own, p);
         let mut from: usize = 0;
@@ -110,21 +111,21 @@ fn walk(plan: Plan, null: Plan, shp: &[u8], shx: &[u8]) -> Verdict
             from = end;
             next += 4;
         }
-        // P16: the doubles in front of the counts, or of a point, and those behind the starts
-        let mut front = at + 12;
-        let mut fronts = plans::front_doubles(own, words);
-        'front: while 0 < fronts {
-            if !leaves::is_finite(shp, front) {
+        // P16: the doubles of the box, and those from the points on
+        let mut corner = at + 12;
+        let mut corners = plans::box_doubles(own);
+        'corners: while 0 < corners {
+            if !leaves::is_finite(shp, corner) {
                 break 'walk Verdict::No {
                     rule: 16,
                     record: k,
                 };
             }
-            fronts -= 1;
-            front += 8;
+            corners -= 1;
+            corner += 8;
         }
         let mut double = pairs;
-        let mut doubles = plans::back_doubles(own, words, p);
+        let mut doubles = plans::point_doubles(words, front);
         'doubles: while 0 < doubles {
             if !leaves::is_finite(shp, double) {
                 break 'walk Verdict::No {

@@ -18,9 +18,12 @@ use format::units::Words;
 
 pub struct Plan {
     pub kind: Kind,
-    // a record has parts; the points of one that has none
+    // a record has a box and says how many points it has; it has parts; the points of one that does not say
+    pub several: bool,
     pub parts: bool,
     pub points: usize,
+    // the words in front of the points, beside the starts of parts
+    pub front: usize,
     // the parts are rings; the points that a part has at least
     pub rings: bool,
     pub least: usize,
@@ -49,11 +52,21 @@ fn least_points(rings: bool) -> usize
     if rings { 4 } else { 2 }
 }
 
-// The points of a record without parts: Null has none.
+// The points of a record that does not say how many: Null has none.
 fn points_alone(code: u32) -> usize
     ensures { λ r. ⌜ r ≡ cond (eqb code 0) 0 1 ⌝ }
 {
     if code == 0 { 0 } else { 1 }
+}
+
+// The words in front of the points, beside the starts: the kind's field; of several points the box and their number, of parts one count more.
+fn front_words(several: bool, parts: bool) -> usize
+    ensures { λ r. ⌜ r ≡ cond parts 22 (cond several 20 2) ⌝ }
+{
+    if parts {
+        return 22;
+    }
+    if several { 20 } else { 2 }
 }
 
 // The plan of the kind with a code, where it is a taken one.
@@ -64,11 +77,14 @@ pub(crate) fn plan_of(code: i32) -> Planned
         return Planned::NotTaken;
     };
     let rings = has_rings(kind.code);
+    let several = format::lengths::has_several(kind);
     match format::lengths::lengths_of(code) {
         Content::Taken(lengths) => Planned::Is(Plan {
             kind: kind,
+            several: several,
             parts: kind.parts,
             points: points_alone(kind.code),
+            front: front_words(several, kind.parts),
             rings: rings,
             least: least_points(rings),
             lengths: lengths,
@@ -96,26 +112,32 @@ pub(crate) fn parts_at(plan: Plan, s: &[u8], at: usize) -> usize
 }
 
 pub(crate) fn points_at(plan: Plan, s: &[u8], at: usize) -> usize
-    requires { ⌜ (plan .parts ≡ true → at + 52 ≤ length (now s)) ⌝ }
-    ensures { λ r. ⌜ r ≡ cond (plan .parts) (littleAt (at + 48) (now (s .entry))) (plan .points) ⌝ }
+    requires { ⌜ (plan .parts ≡ true → at + 52 ≤ length (now s)) × (plan .several ≡ true → at + 48 ≤ length (now s)) ⌝ }
+    ensures { λ r. ⌜ r ≡ cond (plan .parts) (littleAt (at + 48) (now (s .entry))) (cond (plan .several) (littleAt (at + 44) (now (s .entry))) (plan .points)) ⌝ }
 {
     if plan.parts {
-        little(s, at + 48)
+        return little(s, at + 48);
+    }
+    if plan.several {
+        little(s, at + 44)
     } else {
         plan.points
     }
 }
 
-// There is a part, and the first one starts at point 0.
-pub(crate) fn begins(plan: Plan, s: &[u8], at: usize, p: usize) -> bool
+// There is a part, and the first one starts at point 0; of several points that are not in parts there is one.
+pub(crate) fn begins(plan: Plan, s: &[u8], at: usize, p: usize, n: usize) -> bool
     requires { ⌜ (plan .parts ≡ true → at + 52 + 4 * p ≤ length (now s)) ⌝ }
-    ensures { λ r. ⌜ r ≡ cond (plan .parts) (leb 1 p && eqb (littleAt (at + 52) (now (s .entry))) 0) true ⌝ }
+    ensures { λ r. ⌜ r ≡ cond (plan .parts) (leb 1 p && eqb (littleAt (at + 52) (now (s .entry))) 0) (cond (plan .several) (leb 1 n) true) ⌝ }
 {
     if plan.parts {
         if p < 1 {
             return false;
         }
         return little(s, at + 52) == 0;
+    }
+    if plan.several {
+        return 1 <= n;
     }
     true
 }
@@ -127,25 +149,16 @@ pub(crate) fn rings_in(plan: Plan, p: usize) -> usize
     if plan.rings { p } else { 0 }
 }
 
-// The doubles in front of the counts, or all of a record without parts; and those behind the starts.
-pub(crate) fn front_doubles(plan: Plan, words: Words) -> usize
-    requires { ⌜ (Whole words) × (2 ≤ natAbs (words .0)) ⌝ }
-    ensures { λ r. ⌜ r ≡ cond (plan .parts) 4 ((natAbs (words .0) - 2) / 4) ⌝ }
+// The doubles of the box, where there is one; and those from the points on, with so many words in front of them.
+pub(crate) fn box_doubles(plan: Plan) -> usize
+    ensures { λ r. ⌜ r ≡ cond (plan .several) 4 0 ⌝ }
 {
-    if plan.parts {
-        4
-    } else {
-        (count(words) - 2) / 4
-    }
+    if plan.several { 4 } else { 0 }
 }
 
-pub(crate) fn back_doubles(plan: Plan, words: Words, p: usize) -> usize
-    requires { ⌜ (Whole words) × (plan .parts ≡ true → 22 + 2 * p ≤ natAbs (words .0)) ⌝ }
-    ensures { λ r. ⌜ r ≡ cond (plan .parts) ((natAbs (words .0) - 22 - 2 * p) / 4) 0 ⌝ }
+pub(crate) fn point_doubles(words: Words, front: usize) -> usize
+    requires { ⌜ (Whole words) × (front ≤ natAbs (words .0)) ⌝ }
+    ensures { λ r. ⌜ r ≡ (natAbs (words .0) - front) / 4 ⌝ }
 {
-    if plan.parts {
-        (count(words) - 22 - 2 * p) / 4
-    } else {
-        0
-    }
+    (count(words) - front) / 4
 }

@@ -1,9 +1,9 @@
 -- A shape whose doubles have 64 bits each, infinities and NaN among them. A well-formed shape is one: `well-held` in proofs/Held.antt.
-use mathlib.Core.List.{[], _∷_, flatten}
+use mathlib.Core.List.{List, [], _∷_, flatten}
 use mathlib.Core.Option.{Option, none, some}
 use Prim.Native.Nat.{ℕ, _^_, _<_}
 use Rattle.format.specs.Bytes.{Fit}
-use Rattle.format.specs.Shapes.{Point, Measure, Parts, Shape, null, point, parted}
+use Rattle.format.specs.Shapes.{Point, BoxXY, Measure, Shape, null, point, multipoint, parted}
 use Rattle.format.specs.WellFormed.{coordinates}
 
 abbrev pub valueHeld : Option ℕ → Type 0
@@ -14,11 +14,12 @@ abbrev pub measureHeld : Option Measure → Type 0
 measureHeld none = Unit {0}
 measureHeld (some r) = Fit 8 (r .low ∷ r .high ∷ r .values)
 
-pub record PartsHeld (s : Parts) : Type 0 where
-  pub box : Fit 8 (s .box .xmin ∷ s .box .ymin ∷ s .box .xmax ∷ s .box .ymax ∷ [])
-  pub points : Fit 8 (coordinates (flatten (s .parts)))
-  pub z : measureHeld (s .z)
-  pub m : measureHeld (s .m)
+-- the doubles of several points
+pub record DoublesHeld (b : BoxXY) (ps : List Point) (z m : Option Measure) : Type 0 where
+  pub box-held : Fit 8 (b .xmin ∷ b .ymin ∷ b .xmax ∷ b .ymax ∷ [])
+  pub points-held : Fit 8 (coordinates ps)
+  pub z-held : measureHeld z
+  pub m-held : measureHeld m
 
 pub record PointHeld (xy : Point) (z m : Option ℕ) : Type 0 where
   pub x-held : xy .x < 2 ^ 64
@@ -29,4 +30,5 @@ pub record PointHeld (xy : Point) (z m : Option ℕ) : Type 0 where
 abbrev pub Held : Shape → Type 0
 Held null = Unit {0}
 Held (point xy z m) = PointHeld xy z m
-Held (parted s) = PartsHeld s
+Held (multipoint s) = DoublesHeld (s .box) (s .points) (s .z) (s .m)
+Held (parted s) = DoublesHeld (s .box) (flatten (s .parts)) (s .z) (s .m)

@@ -1,6 +1,6 @@
 -- What reading gives for the paper's encoding of a shape: that shape, m raised.
 use mathlib.Core.Path.{_≡_}
-use mathlib.Core.Bool.{true}
+use mathlib.Core.Bool.{Bool, true, false}
 use mathlib.Core.List.{List, [], map, flatten}
 use mathlib.Core.Option.{Option, none, some}
 use Prim.Native.Nat.{ℕ, _+_, _*_, _-_, _^_, _≤_, _<_}
@@ -13,7 +13,7 @@ use Rattle.format.specs.Bytes.{field}
 use Rattle.format.specs.Encoding.{Box, content, shapeWords}
 use Rattle.format.specs.Kinds.{kindAt}
 use Rattle.format.specs.Said.{gives}
-use Rattle.format.specs.Shapes.{Measure, Parts, Shape, null, point, parted, there, OfKind, ownKind}
+use Rattle.format.specs.Shapes.{Point, BoxXY, Measure, Shape, null, point, multipoint, parted, there, OfKind, ownKind}
 use Rattle.format.specs.WellFormed.{coordinates}
 use Rattle.multipart.specs.declared.Body.{Body}
 use Rattle.multipart.specs.declared.Range.{Range}
@@ -21,7 +21,7 @@ use Rattle.multipart.specs.Body.{noRange, raised, countsIn, xyIn, zIn, mIn}
 use Rattle.rules.specs.Meaning.{TakenKind, FileOf}
 use Rattle.meaning.specs.Consequences.{offsetOf, extentOf}
 use Rattle.record.specs.declared.Wanted.the-variants as Wants
-use Rattle.record.specs.Reading.{Shaped, nullShape, pointShape, partsShape, codeIn, recordOf}
+use Rattle.record.specs.Reading.{Shaped, nullShape, pointShape, multipointShape, partsShape, codeIn, recordOf}
 use Rattle.readback.specs.Held.{Held}
 
 -- the double with these bits
@@ -36,51 +36,55 @@ abbrev pub rangeOf : Option Measure → Range
 rangeOf none = noRange
 rangeOf (some r) = record { low = value (r .low); high = value (r .high) }
 
--- what a shape is to a reader: the answer, and what goes into each store
-abbrev pub bodyOfParts : Parts → Body
-bodyOfParts s =
+-- what several points in p parts are to a reader: the answer, and what goes into each store
+abbrev pub bodyAs : ℕ → BoxXY → List Point → Option Measure → Option Measure → Body
+bodyAs p b ps z m =
     record {
-      bbox = record { xmin = value (s .box .xmin); ymin = value (s .box .ymin); xmax = value (s .box .xmax); ymax = value (s .box .ymax) };
-      «z_range» = rangeOf (s .z);
-      «m_range» = rangeOf (s .m);
-      parts = length (s .parts);
-      points = length (flatten (s .parts));
+      bbox = record { xmin = value (b .xmin); ymin = value (b .ymin); xmax = value (b .xmax); ymax = value (b .ymax) };
+      «z_range» = rangeOf z;
+      «m_range» = rangeOf m;
+      parts = p;
+      points = length ps;
     }
 
 abbrev pub shapedAs : Kind → Shape → Shaped
 shapedAs k null = nullShape
 shapedAs k (point xy z m) = pointShape (pos (k .code)) (record { x = value (xy .x); y = value (xy .y); z = valueOr z; m = valueOr m })
-shapedAs k (parted s) = partsShape (pos (k .code)) (there (s .m)) (bodyOfParts s)
+shapedAs k (multipoint s) = multipointShape (pos (k .code)) (there (s .m)) (bodyAs 0 (s .box) (s .points) (s .z) (s .m))
+shapedAs k (parted s) = partsShape (pos (k .code)) (there (s .m)) (bodyAs (length (s .parts)) (s .box) (flatten (s .parts)) (s .z) (s .m))
 
-abbrev pub countsOfParts : Parts → List ℕ
-countsOfParts s = map length (s .parts)
-
-abbrev pub xyOfParts : Parts → List Float
-xyOfParts s = map value (coordinates (flatten (s .parts)))
+abbrev pub xyOf : List Point → List Float
+xyOf ps = map value (coordinates ps)
 
 abbrev pub valuesOf : Option Measure → List Float
 valuesOf none = []
 valuesOf (some r) = map value (r .values)
 
--- the stores have room for the shape
+-- the stores have room for p parts and n points
+abbrev pub RoomFor : ℕ → ℕ → Option Measure → Option Measure → ℕ → ℕ → ℕ → ℕ → Type 0
+RoomFor p n z m counts xy zs ms = (p ≤ counts) × (2 * n ≤ xy) × (there z ≡ true → n ≤ zs) × (there m ≡ true → n ≤ ms)
+
+-- and for the shape
 abbrev pub Roomy : Shape → ℕ → ℕ → ℕ → ℕ → Type 0
 Roomy null counts xy zs ms = Unit {0}
 Roomy (point p z m) counts xy zs ms = Unit {0}
-Roomy (parted s) counts xy zs ms =
-    (length (s .parts) ≤ counts)
-    × (2 * length (flatten (s .parts)) ≤ xy)
-    × (there (s .z) ≡ true → length (flatten (s .parts)) ≤ zs)
-    × (there (s .m) ≡ true → length (flatten (s .parts)) ≤ ms)
+Roomy (multipoint s) counts xy zs ms = RoomFor 0 (length (s .points)) (s .z) (s .m) counts xy zs ms
+Roomy (parted s) counts xy zs ms = RoomFor (length (s .parts)) (length (flatten (s .parts))) (s .z) (s .m) counts xy zs ms
 
--- what the stores get, by the content: of a shape with parts its tables, m raised
+-- what the stores get of several points, by the content: the count of each part, x and y, z, and m raised
+abbrev pub StoresPoints : Bool → List ℕ → List Point → Option Measure → Option Measure → List ℕ → Type 0
+StoresPoints parts counts ps z m bytes =
+    (countsIn parts (drop 4 bytes) ≡ counts)
+    × (xyIn parts (drop 4 bytes) ≡ xyOf ps)
+    × (zIn parts (there z) (drop 4 bytes) ≡ valuesOf z)
+    × (mIn parts (there z) (there m) (drop 4 bytes) ≡ map raised (valuesOf m))
+
+-- and of the shape: a multipoint has no part
 abbrev pub StoresShape : Shape → List ℕ → Type 0
 StoresShape null bytes = Unit {0}
 StoresShape (point p z m) bytes = Unit {0}
-StoresShape (parted s) bytes =
-    (countsIn (drop 4 bytes) ≡ countsOfParts s)
-    × (xyIn (drop 4 bytes) ≡ xyOfParts s)
-    × (zIn (there (s .z)) (drop 4 bytes) ≡ valuesOf (s .z))
-    × (mIn (there (s .z)) (there (s .m)) (drop 4 bytes) ≡ map raised (valuesOf (s .m)))
+StoresShape (multipoint s) bytes = StoresPoints false [] (s .points) (s .z) (s .m) bytes
+StoresShape (parted s) bytes = StoresPoints true (map length (s .parts)) (flatten (s .parts)) (s .z) (s .m) bytes
 
 -- Reading these bytes with this size and no wanted kind finds the kind and gives the shape, where the stores have room for it.
 pub record ReadsShape (k : Kind) (s : Shape) (size : Bytes) (bytes : List ℕ) : Type 0 where
@@ -97,7 +101,7 @@ abbrev pub size : Shape → Bytes
 size s = record { 0 = pos (2 * shapeWords s) }
 
 abbrev pub StoresBack : Type 0
-StoresBack = (k : Kind) (s : Parts) → OfKind k (parted s) → Held (parted s) → Small (parted s) → StoresShape (parted s) (content k (parted s))
+StoresBack = (k : Kind) (s : Shape) → OfKind k s → Held s → Small s → StoresShape s (content k s)
 
 abbrev pub ReadsBack : Type 0
 ReadsBack = (k : Kind) (s : Shape) → TakenKind k → OfKind k s → Held s → Small s → ReadsShape k s (size s) (content k s)

@@ -1,7 +1,7 @@
 -- Reading what was written: where the writer took the tables, reading its record's content, with no wanted kind, gives the tables back, m raised.
 -- Every double comes back bit for bit but for a NaN: the logic has one, and the writer writes one.
 use mathlib.Core.Path.{_≡_}
-use mathlib.Core.Bool.{Bool, cond}
+use mathlib.Core.Bool.{Bool, true, cond}
 use mathlib.Core.List.{List, [], _∷_, map}
 use mathlib.Core.Option.{some}
 use Prim.Native.Nat.{ℕ, _≤_}
@@ -10,18 +10,18 @@ use lib.Ieee.{Float, binary64, fits, ofInt}
 use lib.IntN.{pos}
 use lib.ListN.{length, getD, drop}
 use Rattle.format.specs.Kinds.{kindAt}
-use Rattle.format.specs.Lengths.{Form, nothing, onePoint, parts}
+use Rattle.format.specs.Lengths.{Form, nothing, onePoint, manyPoints, parts, several}
 use Rattle.format.specs.Said.{gives}
-use Rattle.format.specs.Shapes.{sum}
 use Rattle.header.specs.RoundTrip.{Doubles}
 use Rattle.multipart.specs.declared.Body.{Body}
 use Rattle.multipart.specs.declared.Range.{Range}
 use Rattle.multipart.specs.Body.{noRange, raised, countsIn, xyIn, zIn, mIn}
+use Rattle.layouts.specs.Tables.{pointsLent}
 use Rattle.writer.specs.declared.State.{State}
 use Rattle.writer.specs.Adding.{Lent, lentKind, lentForm, lentShape, recordOf, addingOf}
 use Rattle.record.specs.declared.Wanted.the-variants as Wants
 use Rattle.record.specs.Reading
-use Rattle.record.specs.Reading.{Shaped, nullShape, pointShape, partsShape, codeIn}
+use Rattle.record.specs.Reading.{Shaped, nullShape, pointShape, multipointShape, partsShape, codeIn}
 use Rattle.readback.specs.ReadBack.{Small, size}
 
 -- each value that was lent is a double, as its type says
@@ -47,7 +47,7 @@ bodyLent t =
       «z_range» = rangeIf (lentKind t .z) (t .box .zmin) (t .box .zmax);
       «m_range» = rangeIf (lentKind t .m) (t .box .mmin) (t .box .mmax);
       parts = length (t .counts);
-      points = sum (t .counts);
+      points = pointsLent (lentKind t .parts) (t .counts) (t .xy);
     }
 
 -- a table's value, and 0 where the table has none
@@ -57,6 +57,7 @@ valueAt i values = getD values i (ofInt binary64 (pos 0))
 abbrev pub shapedBy : Form → Lent → Shaped
 shapedBy nothing t = nullShape
 shapedBy onePoint t = pointShape (t .code) (record { x = valueAt 0 (t .xy); y = valueAt 1 (t .xy); z = valueAt 0 (t .zs); m = valueAt 0 (t .ms) })
+shapedBy manyPoints t = multipointShape (t .code) (lentKind t .m) (bodyLent t)
 shapedBy parts t = partsShape (t .code) (lentKind t .m) (bodyLent t)
 
 -- the stores are as long as the tables
@@ -68,10 +69,10 @@ pub record Room (t : Lent) (counts xy zs ms : ℕ) : Type 0 where
 
 -- what the stores get, by the content
 pub record TablesIn (t : Lent) (content : List ℕ) : Type 0 where
-  pub counts-back : countsIn (drop 4 content) ≡ t .counts
-  pub xy-back : xyIn (drop 4 content) ≡ t .xy
-  pub zs-back : zIn (lentKind t .z) (drop 4 content) ≡ t .zs
-  pub ms-back : mIn (lentKind t .z) (lentKind t .m) (drop 4 content) ≡ map raised (t .ms)
+  pub counts-back : countsIn (lentKind t .parts) (drop 4 content) ≡ t .counts
+  pub xy-back : xyIn (lentKind t .parts) (drop 4 content) ≡ t .xy
+  pub zs-back : zIn (lentKind t .parts) (lentKind t .z) (drop 4 content) ≡ t .zs
+  pub ms-back : mIn (lentKind t .parts) (lentKind t .z) (lentKind t .m) (drop 4 content) ≡ map raised (t .ms)
 
 -- ---- the statement
 
@@ -81,9 +82,9 @@ written s t = drop 8 (recordOf s t)
 
 pub record TablesBack (s : State) (t : Lent) : Type 0 where
   pub kind-is : kindAt (codeIn (written s t)) ≡ some (lentKind t)
-  pub answer : (counts xy zs ms : ℕ) → (lentForm t ≡ parts → Room t counts xy zs ms)
+  pub answer : (counts xy zs ms : ℕ) → (several (lentForm t) ≡ true → Room t counts xy zs ms)
       → Reading.recordOf Wants.Any (size (lentShape t)) (written s t) counts xy zs ms ≡ gives (shapedBy (lentForm t) t)
-  pub stores : lentForm t ≡ parts → TablesIn t (written s t)
+  pub stores : several (lentForm t) ≡ true → TablesIn t (written s t)
 
 abbrev pub ReadsWritten : Type 0
 ReadsWritten =
