@@ -9,7 +9,7 @@ use lib.Dec.{leb, ltb, eqb}
 use lib.ListN.{length}
 use borrow.Author.Tests.{lt-ltb, le-ltb, le-leb, lt-leb, eq-eqb, ne-eqb, ltb-true, leb-true, eqb-true}
 use Rattle.format.specs.declared.kinds.Kind.{Kind}
-use Rattle.format.specs.Lengths.{nothing, parts, mayLackM, contentWords, lengthsFor, formulaWords}
+use Rattle.format.specs.Lengths.{nothing, severalForm, mayLackM, frontWords, contentWords, lengthsFor, formulaWords}
 use Rattle.format.proofs.Equations.{words-are}
 use Rattle.format.proofs.Laid.{nothing-words}
 use Rattle.format.proofs.LengthLaws.{least-words}
@@ -102,40 +102,46 @@ null-words k l e =
     let w = nothing-words (k .z) (k .m) in
     ⊎-elim (λ q. eqb-true (wordsOf l) _ q ∙ w) (λ q. eqb-true (wordsOf l) _ q ∙ w) (either (eqb (wordsOf l) _) (eqb (wordsOf l) _) e)
 
--- with parts
-module _ (t : Taken) (l : List ℕ) (h : t .form ≡ parts) where
-  as-parts : P13 t l ≡ (held (littleAt 44 l) && held (littleAt 48 l) && fits t (littleAt 44 l) (littleAt 48 l) (wordsOf l))
-  as-parts = fits13 t l ∙ rw h
+-- several points
+module _ (f : Bool) (t : Taken) (l : List ℕ) (h : t .form ≡ severalForm f) where
+  abbrev p : ℕ
+  p = partsOf (severalForm f) l
 
-  pub room13 : P13 t l ≡ true → 22 + 2 * littleAt 44 l + 8 * littleAt 48 l ≤ wordsOf l
+  abbrev n : ℕ
+  n = pointsOf (severalForm f) l
+
+  as-several : P13 t l ≡ (held p && held n && fits t p n (wordsOf l))
+  as-several = fits13 t l ∙ rw h
+
+  pub room13 : P13 t l ≡ true → frontWords (severalForm f) p + 8 * n ≤ wordsOf l
   room13 e =
-      let p = littleAt 44 l in
-      let n = littleAt 48 l in
-      let f : P13 (record { kind = t .kind; form = parts }) l ≡ true = rw h at e in
+      let without : Bool = cond (mayLackM (severalForm f)) false (t .kind .m) in
+      let g : P13 (record { kind = t .kind; form = severalForm f }) l ≡ true = rw h at e in
       ⊎-elim
       (λ q.
-      let g : wordsOf l ≡ contentWords parts (t .kind .z) false p n = eqb-true (wordsOf l) _ q in
-      omega (arith, least-words (t .kind .z) false p n))
+      let w : wordsOf l ≡ contentWords (severalForm f) (t .kind .z) without p n = eqb-true (wordsOf l) _ q in
+      omega (arith, least-words f (t .kind .z) without p n))
       (λ q.
-      let g : wordsOf l ≡ contentWords parts (t .kind .z) (t .kind .m) p n = eqb-true (wordsOf l) _ q in
-      omega (arith, least-words (t .kind .z) (t .kind .m) p n))
-      (either _ _ (both-true (held p && held n) _ f .1))
+      let w : wordsOf l ≡ contentWords (severalForm f) (t .kind .z) (t .kind .m) p n = eqb-true (wordsOf l) _ q in
+      omega (arith, least-words f (t .kind .z) (t .kind .m) p n))
+      (either _ _ (both-true (held p && held n) _ g .1))
 
-  pub few13 : wordsOf l < 22 → false ≡ P13 t l
-  few13 w = by (P13 t l) refl
+  -- the words in front of them have to be there
+  pub few13 : (least : ℕ) → least ≤ frontWords (severalForm f) p → wordsOf l < least → false ≡ P13 t l
+  few13 least b w = by (P13 t l) refl
     where
-      by : (b : Bool) → P13 t l ≡ b → false ≡ b
+      by : (q : Bool) → P13 t l ≡ q → false ≡ q
       by true e = absurd (omega (arith, room13 e))
       by false e = refl
 
-  pub parts13 : 2 ^ 31 ≤ littleAt 44 l → false ≡ P13 t l
-  parts13 p = sym (as-parts ∙ rw (le-ltb (littleAt 44 l) (2 ^ 31) p))
+  pub parts13 : 2 ^ 31 ≤ p → false ≡ P13 t l
+  parts13 i = sym (as-several ∙ rw (le-ltb p (2 ^ 31) i))
 
-  pub points13 : littleAt 44 l < 2 ^ 31 → 2 ^ 31 ≤ littleAt 48 l → false ≡ P13 t l
-  points13 p n = sym (as-parts ∙ rw (lt-ltb (littleAt 44 l) (2 ^ 31) p, le-ltb (littleAt 48 l) (2 ^ 31) n))
+  pub points13 : p < 2 ^ 31 → 2 ^ 31 ≤ n → false ≡ P13 t l
+  points13 i j = sym (as-several ∙ rw (lt-ltb p (2 ^ 31) i, le-ltb n (2 ^ 31) j))
 
-  pub last13 : (p n words : ℕ) → littleAt 44 l ≡ p → littleAt 48 l ≡ n → wordsOf l ≡ words → p < 2 ^ 31 → n < 2 ^ 31 → fits t p n words ≡ P13 t l
-  last13 p n words e f w i j =
-      let i′ : littleAt 44 l < 2 ^ 31 = rw e i in
-      let j′ : littleAt 48 l < 2 ^ 31 = rw f j in
-      sym (as-parts ∙ (rw (lt-ltb (littleAt 44 l) (2 ^ 31) i′, lt-ltb (littleAt 48 l) (2 ^ 31) j′) (rw (e, f, w))))
+  pub last13 : (p′ n′ words : ℕ) → p ≡ p′ → n ≡ n′ → wordsOf l ≡ words → p′ < 2 ^ 31 → n′ < 2 ^ 31 → fits t p′ n′ words ≡ P13 t l
+  last13 p′ n′ words e g w i j =
+      let i′ : p < 2 ^ 31 = rw e i in
+      let j′ : n < 2 ^ 31 = rw g j in
+      sym (as-several ∙ (rw (lt-ltb p (2 ^ 31) i′, lt-ltb n (2 ^ 31) j′) (rw (e, g, w))))
