@@ -1,6 +1,8 @@
 -- The laws and the theorems: Theorem has what the pair checker's yes means, Consequences what follows.
 pub mod Always
+pub mod BackMultipoint
 pub mod BackParts
+pub mod BackPoints
 pub mod Behind
 pub mod Consequences
 pub mod Decode
@@ -11,7 +13,9 @@ pub mod Forms
 pub mod Only
 pub mod Own
 pub mod Points
+pub mod ReadMultipoint
 pub mod ReadParts
+pub mod ReadPoints
 pub mod Record
 pub mod Skip
 pub mod Split

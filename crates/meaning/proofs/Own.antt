@@ -7,9 +7,9 @@ use native.Mathlib.Omega.{arith}
 use lib.Dec.{eqb}
 use lib.IntN.{pos}
 use Rattle.format.specs.declared.kinds.Kind.{Kind}
-use Rattle.format.specs.Lengths.{Form, nothing, onePoint}
+use Rattle.format.specs.Lengths.{Form, nothing, onePoint, manyPoints}
 use Rattle.format.specs.Lengths
-use Rattle.format.specs.Shapes.{Shape, null, point, parted, OfKind, ownKind, Among}
+use Rattle.format.specs.Shapes.{Shape, null, point, multipoint, parted, OfKind, ownKind, Among}
 use Rattle.format.specs.WellFormed.{WellFormed}
 use Rattle.format.proofs.LengthLaws.{form-flags, null-row, null-form, own-kind}
 use Rattle.rules.specs.Rules.{Taken, nullTaken, littleAt, ownTaken}
@@ -20,6 +20,7 @@ use Rattle.meaning.proofs.Table.{Known}
 abbrev ownForm : Form → Shape → Form
 ownForm f null = nothing
 ownForm f (point xy z m) = f
+ownForm f (multipoint s) = f
 ownForm f (parted s) = f
 
 abbrev pub shapeTaken : Taken → Shape → Taken
@@ -29,11 +30,13 @@ shapeTaken t s = record { kind = ownKind (t .kind) s; form = ownForm (t .form) s
 pub well-own : (k : Kind) (s : Shape) → WellFormed k s → WellFormed (ownKind k s) s
 well-own k null v = v
 well-own k (point xy z m) v = v
+well-own k (multipoint s) v = v
 well-own k (parted s) v = v
 
 pub own-well : (k : Kind) (s : Shape) → WellFormed (ownKind k s) s → WellFormed k s
 own-well k null v = v
 own-well k (point xy z m) v = v
+own-well k (multipoint s) v = v
 own-well k (parted s) v = v
 
 -- ---- where the header's is a taken kind of the table, the own kind is one
@@ -51,6 +54,7 @@ field-known t l k = go (eqb (littleAt 8 l) 0)
 pub shape-known : (t : Taken) (s : Shape) → Known t → Known (shapeTaken t s)
 shape-known t null k = null-known
 shape-known t (point xy z m) k = k
+shape-known t (multipoint s) k = k
 shape-known t (parted s) k = k
 
 -- ---- the field's kind and the shape's are one: of the shape that is read by the field
@@ -69,5 +73,6 @@ module _ (t : Taken) (l : List ℕ) (k : Known t) where
 
   pub own-is : (s : Shape) → Among (t .kind) s → littleAt 8 l ≡ ownKind (t .kind) s .code → ownTaken t l ≡ shapeTaken t s
   own-is null o e = by-code 0 true e refl
-  own-is (point xy z m) o e = by-code (t .kind .code) false e (form-flags (pos (t .kind .code)) (t .kind) onePoint (k .row) (o .form) .0)
-  own-is (parted s) o e = by-code (t .kind .code) false e (form-flags (pos (t .kind .code)) (t .kind) Lengths.parts (k .row) (o .form) .0)
+  own-is (point xy z m) o e = by-code (t .kind .code) false e (form-flags (pos (t .kind .code)) (t .kind) onePoint (k .row) (o .form) .null-is)
+  own-is (multipoint s) o e = by-code (t .kind .code) false e (form-flags (pos (t .kind .code)) (t .kind) manyPoints (k .row) (o .form) .null-is)
+  own-is (parted s) o e = by-code (t .kind .code) false e (form-flags (pos (t .kind .code)) (t .kind) Lengths.parts (k .row) (o .form) .null-is)

@@ -14,14 +14,15 @@ use Rattle.format.specs.Shapes.{Point, point, there, PointOf}
 use Rattle.format.specs.WellFormed.{hasRings, AllFinite, PointWellFormed}
 use Rattle.format.proofs.ByteLaws.{AllBytes}
 use Rattle.format.proofs.FiniteLaws.{finite-fit, finite-append, finite-front, finite-back, value-finite, finite-value}
-use Rattle.format.proofs.Equations.{parts-point, points-point, words-point}
+use Rattle.format.proofs.Equations.{front-point, parts-point, points-point, words-point}
+use Rattle.format.proofs.OrderLaws.{both-true}
 use Rattle.format.proofs.Places.{Stands}
 use Rattle.format.proofs.Runs.{numbers, numbers-back, run, run-stands, length-numbers}
 use Rattle.format.proofs.Doubles.{value, writeIf, there-read, zIn, mIn, all-written, length-all, z-back, m-back}
 use Rattle.format.proofs.Pairs.{nowhere, pairs, pairs-one}
 use Rattle.format.proofs.Laid.{point-words, pointDoubles, point-laid, any-right}
-use Rattle.rules.specs.Rules.{wordsOf}
-use Rattle.rules.proofs.FiniteLaws.{finites-all, finites-true}
+use Rattle.rules.specs.Rules.{wordsOf, finites}
+use Rattle.rules.proofs.FiniteLaws.{finites-all, finites-true, finites-none, rule16}
 use Rattle.rules.proofs.FaultLaws.{Met}
 use Rattle.meaning.proofs.Decode.{pointCount, pointFrom, shapeAt, Shaped}
 
@@ -56,8 +57,8 @@ module _ (k : Kind) (l : List ℕ) (b : AllBytes l) (f : formOf k ≡ some onePo
 
   all-finite : AllFinite (pointDoubles xy z m)
   all-finite =
-      let e : (wordsOf l - 2) / 4 ≡ pointCount k = omega (arith, words-are) in
-      subst AllFinite (sym written) (finites-all (pointCount k) 12 l b room (rw e at (met .p16)))
+      let e = both-true (finites 0 12 l) _ (sym (rule16 (record { kind = k; form = onePoint }) l 2 (pointCount k) (front-point 0) words-are) ∙ met .p16) in
+      subst AllFinite (sym written) (finites-all (pointCount k) 12 l b room (e .1))
 
   has-z : there z ≡ k .z
   has-z = there-read value (k .z) _
@@ -107,11 +108,12 @@ module _ (k : Kind) (l : List ℕ) (xy : Point) (z m : Option ℕ) (o : PointOf 
 
   pub point-met : hasRings k ≡ false → 8 + 2 * wordsOf l ≤ length l → Met (record { kind = k; form = onePoint }) l
   point-met none-closed within =
-      let e : (wordsOf l - 2) / 4 ≡ pointCount k = omega (arith, words-back, point-words (k .z) (k .m)) in
       record {
         within = within;
         p13 = rw (eq-eqb _ _ words-back);
         p14 = refl;
         p15 = rw none-closed;
-        p16 = rw e (finites-true (pointCount k) 12 l (rw doubles-read finite-all));
+        p16 =
+            rule16 (record { kind = k; form = onePoint }) l 2 (pointCount k) (front-point 0) (words-back ∙ point-words (k .z) (k .m))
+            ∙ rw (finites-none 12 l) (finites-true (pointCount k) 12 l (rw doubles-read finite-all));
       }
