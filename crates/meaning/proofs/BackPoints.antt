@@ -95,6 +95,6 @@ module _ (f : Bool) (k : Kind) (l : List ℕ) (box : BoxXY) (ps : List Point) (z
   pub met16 : P16 (record { kind = k; form = severalForm f }) l ≡ true
   met16 =
       let w : wordsOf l ≡ frontWords (severalForm f) p + 4 * severalCount f k l = rw has-m (words ∙ several-words f (k .z) (there m) p n (no-parts f l)) in
-      rule16 (record { kind = k; form = severalForm f }) l (frontWords (severalForm f) p) (severalCount f k l) refl w
+      rule16 (record { kind = k; form = severalForm f }) l (frontWords (severalForm f) p) refl (severalCount f k l) w
       ∙ rw (all-several f, finites-true 4 12 l (rw box-read (a .fine .box-finite)), ← pairs-at (severalForm f) l)
       (finites-true (severalCount f k l) (pairsAt (severalForm f) l) l (rw doubles-read finite-all))

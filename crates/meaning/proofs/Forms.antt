@@ -80,7 +80,7 @@ module _ (k : Kind) (l : List ℕ) (rings : hasRings k ≡ true → formOf k ≡
               p13 = rw (nothing-words (k .z) (k .m), eq-eqb (wordsOf l) 2 (w ∙ null-words));
               p14 = refl;
               p15 = rw (no-rings k nothing rings o never);
-              p16 = rule16 (record { kind = k; form = nothing }) l 2 0 (front-null 0) (w ∙ null-words) ∙ rw (finites-none 12 l);
+              p16 = rule16 (record { kind = k; form = nothing }) l 2 (front-null 0) 0 (w ∙ null-words) ∙ rw (finites-none 12 l);
             };
       })
   back-as (point xy z m) o v hp hn w st form f =

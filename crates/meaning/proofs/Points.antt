@@ -57,7 +57,7 @@ module _ (k : Kind) (l : List ℕ) (b : AllBytes l) (f : formOf k ≡ some onePo
 
   all-finite : AllFinite (pointDoubles xy z m)
   all-finite =
-      let e = both-true (finites 0 12 l) _ (sym (rule16 (record { kind = k; form = onePoint }) l 2 (pointCount k) (front-point 0) words-are) ∙ met .p16) in
+      let e = both-true (finites 0 12 l) _ (sym (rule16 (record { kind = k; form = onePoint }) l 2 (front-point 0) (pointCount k) words-are) ∙ met .p16) in
       subst AllFinite (sym written) (finites-all (pointCount k) 12 l b room (e .1))
 
   has-z : there z ≡ k .z
@@ -114,6 +114,6 @@ module _ (k : Kind) (l : List ℕ) (xy : Point) (z m : Option ℕ) (o : PointOf 
         p14 = refl;
         p15 = rw none-closed;
         p16 =
-            rule16 (record { kind = k; form = onePoint }) l 2 (pointCount k) (front-point 0) (words-back ∙ point-words (k .z) (k .m))
+            rule16 (record { kind = k; form = onePoint }) l 2 (front-point 0) (pointCount k) (words-back ∙ point-words (k .z) (k .m))
             ∙ rw (finites-none 12 l) (finites-true (pointCount k) 12 l (rw doubles-read finite-all));
       }

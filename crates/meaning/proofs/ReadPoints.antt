@@ -103,7 +103,7 @@ module _ (f : Bool) (k : Kind) (l : List ℕ) (b : AllBytes l) (met : Met (recor
 
   -- what is finite
   test16 : (finites 4 12 l ≡ true) × (finites (severalCount f k l) (8 + 2 * front) l ≡ true)
-  test16 = both-true _ _ (rw (all-several f) at (sym (rule16 (record { kind = k; form = severalForm f }) l front (severalCount f k l) refl words-are) ∙ met .p16))
+  test16 = both-true _ _ (rw (all-several f) at (sym (rule16 (record { kind = k; form = severalForm f }) l front refl (severalCount f k l) words-are) ∙ met .p16))
 
   pub finite : 44 ≤ length l → DoublesFinite (boxAt l) ps zs ms
   finite h =

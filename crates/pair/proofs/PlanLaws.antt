@@ -1,5 +1,5 @@
 -- The plan of a kind, by what the lookups answer: they find the kind that the rules take, or none.
-use mathlib.Core.Path.{_≡_, refl, sym, ap, _∙_}
+use mathlib.Core.Path.{_≡_, refl, sym, ap, ap₂, _∙_}
 use mathlib.Core.Bool.{Bool, true, false, cond, _||_}
 use mathlib.Core.List.{List}
 use mathlib.Core.Option.{Option, none, some}
@@ -11,13 +11,13 @@ use lib.ListN.{drop}
 use Rattle.format.specs.declared.kinds.Kind.{Kind}
 use Rattle.format.specs.declared.lengths.Lengths.{Lengths}
 use Rattle.format.specs.Kinds.{nullKind, kindAt}
-use Rattle.format.specs.Lengths.{Form, nothing, onePoint, parts, formOf, lengthsOf}
+use Rattle.format.specs.Lengths.{Form, nothing, onePoint, manyPoints, parts, hasSeveral, formOf, several, frontWords, lengthsOf}
 use Rattle.format.specs.Numbers.{leI32}
 use Rattle.format.specs.WellFormed.{hasRings, leastPoints}
-use Rattle.format.proofs.Equations.{rings-is, least-is}
+use Rattle.format.proofs.Equations.{front-null, front-point, front-many, front-parts, rings-is, least-is}
 use Rattle.format.proofs.KindLaws as Kinds
 use Rattle.format.proofs.KindLaws.{named-at}
-use Rattle.format.proofs.LengthLaws.{lengths-form, Flags, form-flags, null-row, null-form}
+use Rattle.format.proofs.LengthLaws.{lengths-form, Flags, form-flags, form-several, null-row, null-form}
 use Rattle.rules.specs.Rules.{Taken, nullTaken, littleAt, withForm, takenOf, takenIn, ownTaken}
 use Rattle.rules.proofs.HeaderRules.{named}
 use Rattle.rules.proofs.FirstFault.{taken-is}
@@ -34,33 +34,50 @@ unknown z e = sym (ap (λ (o : Option Kind). planned (takenOf o)) e)
 pub not-taken : (z : ℤ) (k : Kind) → kindAt z ≡ some k → formOf k ≡ none → NotTaken ≡ planned (takenOf (kindAt z))
 not-taken z k e n = sym (ap planned (ap takenOf e ∙ ap (withForm k) n))
 
--- a kind without parts has code 0, or one point
+-- a kind that does not say how many points there are has code 0, or one
 form-parts : (k : Kind) (f : Form) → Flags k f → (k .parts ≡ hasParts f) × (cond (eqb (k .code) 0) 0 1 ≡ pointsAlone f)
-form-parts k nothing e = (e .1, rw (e .0))
-form-parts k onePoint e = (e .1, rw (e .0))
-form-parts k parts e = (e .1, rw (e .0))
+form-parts k nothing e = (e .parts-is, rw (e .null-is))
+form-parts k onePoint e = (e .parts-is, rw (e .null-is))
+form-parts k manyPoints e = (e .parts-is, rw (e .null-is))
+form-parts k parts e = (e .parts-is, rw (e .null-is))
 
-pub is-taken : (z : ℤ) (k : Kind) (l : Lengths) (points least : ℕ) (rings : Bool)
+-- the words in front of the points
+abbrev pub frontOf : Bool → Bool → ℕ
+frontOf parted many = cond parted 22 (cond many 20 2)
+
+pub front-of : (f : Form) → frontOf (hasParts f) (several f) ≡ frontWords f 0
+front-of nothing = sym (front-null 0)
+front-of onePoint = sym (front-point 0)
+front-of manyPoints = sym (front-many 0)
+front-of parts = sym (front-parts 0)
+
+pub is-taken : (z : ℤ) (k : Kind) (l : Lengths) (many : Bool) (points front least : ℕ) (rings : Bool)
     → kindAt z ≡ some k
     → lengthsOf k ≡ some l
+    → many ≡ hasSeveral k
     → points ≡ cond (eqb (k .code) 0) 0 1
+    → front ≡ frontOf (k .parts) many
     → rings ≡ (eqb (k .code) 5 || eqb (k .code) 15 || eqb (k .code) 25)
     → least ≡ cond rings 4 2
-    → Is (record { kind = k; parts = k .parts; points = points; rings = rings; least = least; lengths = l }) ≡ planned (takenOf (kindAt z))
-is-taken z k l points least rings e n ps rs ls =
+    → Is (record { kind = k; several = many; parts = k .parts; points = points; front = front; rings = rings; least = least; lengths = l }) ≡ planned (takenOf (kindAt z))
+is-taken z k l many points front least rings e n ms ps fs rs ls =
     let o = lengths-form k l n in
-    let p = form-parts k (o .0) (form-flags z k (o .0) e (o .1)) in
+    let flags = form-flags z k (o .0) e (o .1) in
+    let p = form-parts k (o .0) flags in
+    let s = ms ∙ form-several k (o .0) flags in
     let q = ps ∙ p .1 in
+    let w : front ≡ frontWords (o .0) 0 = fs ∙ (ap₂ frontOf (p .0) s ∙ front-of (o .0)) in
     let r = rs ∙ sym (rings-is k) in
     let m : least ≡ leastPoints k = ls ∙ (ap (λ (x : Bool). cond x 4 2) r ∙ sym (least-is k)) in
-    let plan : Is (record { kind = k; parts = k .parts; points = points; rings = rings; least = least; lengths = l }) ≡ planned (withForm k (some (o .0))) =
-    λ i. Is (record { kind = k; parts = p .0 i; points = q i; rings = r i; least = m i; lengths = o .2 i }) in
+    let plan : Is (record { kind = k; several = many; parts = k .parts; points = points; front = front; rings = rings; least = least; lengths = l }) ≡ planned (withForm k (some (o .0))) =
+    λ i. Is (record { kind = k; several = s i; parts = p .0 i; points = q i; front = w i; rings = r i; least = m i; lengths = o .2 i }) in
     plan ∙ sym (ap planned (ap takenOf e ∙ ap (withForm k) (o .1)))
 
 -- a plan tells the kind that it is for
-form-told : (f : Form) → cond (hasParts f) parts (alone (pointsAlone f)) ≡ f
+form-told : (f : Form) → cond (hasParts f) parts (cond (several f) manyPoints (alone (pointsAlone f))) ≡ f
 form-told nothing = refl
 form-told onePoint = refl
+form-told manyPoints = refl
 form-told parts = refl
 
 told : (t : Taken) → takenFrom (planFor t) ≡ t

@@ -9,6 +9,7 @@ use lib.Dec.{lit≤}
 use lib.ListN.{length, drop, length-drop}
 use lib.Seq.{drop-drop}
 use Rattle.format.specs.declared.kinds.Kind.{Kind}
+use Rattle.format.specs.Lengths.{several, frontWords}
 use Rattle.format.specs.Order.{first}
 use Rattle.format.specs.Said.{Said, fault}
 use Rattle.format.specs.WellFormed.{hasRings, leastPoints}
@@ -20,9 +21,9 @@ use Rattle.rules.proofs.WalkLaws.{broken, met-all}
 use Rattle.pair.specs.declared.plans.Plan.{Plan}
 use Rattle.pair.specs.Plans.{hasParts, pointsAlone, takenFrom}
 use Rattle.pair.specs.Verdicts.{headFault}
-use Rattle.pair.proofs.PlanLaws.{Owned}
+use Rattle.pair.proofs.PlanLaws.{Owned, frontOf, front-of}
 use Rattle.pair.proofs.RecordLaws.{by-head, by-content}
-use Rattle.pair.proofs.ShapeLaws.{head-told, parts-room, parts-of, points-of, at-most-one, beginsOf, shape14, shape15, shape16}
+use Rattle.pair.proofs.ShapeLaws.{head-told, several-room, parts-of, points-of, front-more, at-most-one, parts-several, beginsOf, shape14, shape15, shape16}
 
 abbrev pub counts : ℕ → ℕ → ℕ → Counts
 counts k ps ns = record { records = k; parts = ps; points = ns }
@@ -78,6 +79,19 @@ module _ {plan own : Plan} {s x : List ℕ} {at ix k : ℕ} (o : Open plan own s
   has-parts : own .parts ≡ hasParts (kind-of .form)
   has-parts = ap (λ (p : Plan). p .parts) (o .owned .is)
 
+  has-several : own .several ≡ several (kind-of .form)
+  has-several = ap (λ (p : Plan). p .several) (o .owned .is)
+
+  front-is : own .front ≡ frontWords (kind-of .form) 0
+  front-is = ap (λ (p : Plan). p .front) (o .owned .is)
+
+  -- which its flags tell
+  pub front-flags : own .front ≡ frontOf (own .parts) (own .several)
+  front-flags = front-is ∙ sym (ap₂ frontOf has-parts has-several ∙ front-of (kind-of .form))
+
+  pub parted-several : own .parts ≡ true → own .several ≡ true
+  parted-several e = has-several ∙ parts-several (kind-of .form) (sym has-parts ∙ e)
+
   from : 0 < length bytes
   from = rw length-drop (omega (arith, o .inside))
 
@@ -93,8 +107,7 @@ module _ {plan own : Plan} {s x : List ℕ} {at ix k : ℕ} (o : Open plan own s
     pub no13 : P13 kind-of bytes ≡ false → fault 13 (k + 1) ≡ v
     no13 e = answer 13 (λ z. omega arith) (rw e)
 
--- What its words have room for, with p parts and n points: the parts' starts and points, the doubles in front of the counts and those behind the
--- starts.
+-- What its words have room for, with p parts and n points: the words in front of the points, the parts' starts and points, and the box.
 pub record Fit (own : Plan) (s x : List ℕ) (at ix w p n : ℕ) : Type 0 where
   pub held : w < 2 ^ 31
   pub within : at + (8 + 2 * w) ≤ length s
@@ -103,9 +116,9 @@ pub record Fit (own : Plan) (s x : List ℕ) (at ix w p n : ℕ) : Type 0 where
   pub least-few : own .least ≤ 4
   pub few-parts : p ≤ w
   pub few-points : n ≤ w
-  pub in-parts : 0 < p → 22 + 2 * p + 8 * n ≤ w
-  pub in-front : 12 + 8 * cond (own .parts) 4 ((w - 2) / 4) ≤ 8 + 2 * w
-  pub in-back : 0 < cond (own .parts) ((w - 22 - 2 * p) / 4) 0 → 52 + 4 * p + 8 * cond (own .parts) ((w - 22 - 2 * p) / 4) 0 ≤ 8 + 2 * w
+  pub in-front : own .front + 2 * p ≤ w
+  pub in-parts : 0 < p → (own .front ≡ 22) × (22 + 2 * p + 8 * n ≤ w)
+  pub in-box : 12 + 8 * cond (own .several) 4 0 ≤ 8 + 2 * w
 
 least-more : (b : Bool) → (1 ≤ cond b 4 2) × (cond b 4 2 ≤ 4)
 least-more true = (lit≤ tt, lit≤ tt)
@@ -120,12 +133,14 @@ pub long-rings : (b : Bool) (s : List ℕ) (n least at cur p : ℕ) → partsLon
 long-rings true s n least at cur p e = e
 long-rings false s n least at cur p e = parts-done s n least at cur 0 zero-le
 
--- with parts, and without
-by-parts : (b : Bool) (a i j w p n : ℕ) → p ≡ cond b i 0 → n ≡ cond b j a → 2 ≤ w → a ≤ 1 → (b ≡ true → 22 + 2 * p + 8 * n ≤ w)
-    → (p ≤ w) × (n ≤ w) × (0 < p → 22 + 2 * p + 8 * n ≤ w) × (12 + 8 * cond b 4 ((w - 2) / 4) ≤ 8 + 2 * w)
-    × (0 < cond b ((w - 22 - 2 * p) / 4) 0 → 52 + 4 * p + 8 * cond b ((w - 22 - 2 * p) / 4) 0 ≤ 8 + 2 * w)
-by-parts true a i j w p n e f h k r = let q = r refl in (omega arith, omega arith, λ z. q, omega arith, λ z. omega arith)
-by-parts false a i j w p n e f h k r = (omega arith, omega arith, λ z. omega arith, omega arith, λ z. omega arith)
+-- with parts, with several points without them, and with neither
+by-flags : (b m : Bool) (a i j w p n front : ℕ) → front ≡ frontOf b m → p ≡ cond b i 0 → n ≡ cond b j (cond m i a) → 2 ≤ w → a ≤ 1 → (b ≡ true → m ≡ true)
+    → (m ≡ true → front + 2 * p + 8 * n ≤ w)
+    → (p ≤ w) × (n ≤ w) × (front + 2 * p ≤ w) × (0 < p → (front ≡ 22) × (22 + 2 * p + 8 * n ≤ w)) × (12 + 8 * cond m 4 0 ≤ 8 + 2 * w)
+by-flags true true a i j w p n front g e f h k s r = let q = r refl in (omega arith, omega arith, omega arith, λ z. (g, omega arith), omega arith)
+by-flags true false a i j w p n front g e f h k s r = absurd (let z : _≡_ {A = Bool} false true = s refl in let y : _≡_ {A = ℕ} 0 1 = cc in omega arith)
+by-flags false true a i j w p n front g e f h k s r = let q = r refl in (omega arith, omega arith, omega arith, λ z. absurd (omega arith), omega arith)
+by-flags false false a i j w p n front g e f h k s r = (omega arith, omega arith, omega arith, λ z. absurd (omega arith), omega arith)
 
 -- and with its words and counts read, where its length is one that they give
 pub record Here (plan own : Plan) (s x : List ℕ) (at ix k ps ns w p n : ℕ) (v : Said Counts) : Type 0 where
@@ -133,15 +148,15 @@ pub record Here (plan own : Plan) (s x : List ℕ) (at ix k ps ns w p n : ℕ) (
   pub sized : P13 (takenFrom own) (drop at s) ≡ true
   pub we : w ≡ bigAt (at + 4) s
   pub pe : p ≡ cond (own .parts) (littleAt (at + 44) s) 0
-  pub ne : n ≡ cond (own .parts) (littleAt (at + 48) s) (own .points)
+  pub ne : n ≡ cond (own .parts) (littleAt (at + 48) s) (cond (own .several) (littleAt (at + 44) s) (own .points))
   pub rest : walkFrom (takenFrom plan) (drop at s) (drop ix x) at (counts k ps ns) ≡ v
 
--- a record with parts has room for its counts
-pub counted : {plan own : Plan} {s x : List ℕ} {at ix k : ℕ} → Open plan own s x at ix k → P13 (takenFrom own) (drop at s) ≡ true → (w : ℕ) → w ≡ bigAt (at + 4) s
-    → own .parts ≡ true → 22 + 2 * littleAt (at + 44) s + 8 * littleAt (at + 48) s ≤ w
-counted {plan} {own} {s} {x} {at} o e w is p =
+-- a record with several points has room for its counts
+pub counted : {plan own : Plan} {s x : List ℕ} {at ix k : ℕ} → (o : Open plan own s x at ix k) → P13 (takenFrom own) (drop at s) ≡ true → (w : ℕ) → w ≡ bigAt (at + 4) s
+    → own .several ≡ true → own .front + 2 * partsOf (takenFrom own .form) (drop at s) + 8 * pointsOf (takenFrom own .form) (drop at s) ≤ w
+counted {plan} {own} {s} {x} {at} o e w is m =
     let q : w ≡ wordsOf (drop at s) = is ∙ sym (big-drop at s 4) in
-    rw (q, ← little-drop at s 44, ← little-drop at s 48) (parts-room (takenFrom own) (drop at s) e (sym (has-parts o) ∙ p))
+    rw (q, front-is o, ← front-more (takenFrom own .form) (drop at s)) (several-room (takenFrom own) (drop at s) e (sym (has-several o) ∙ m))
 
 module _ {plan own : Plan} {s x : List ℕ} {at ix k ps ns w p n : ℕ} {v : Said Counts} (h : Here plan own s x at ix k ps ns w p n v) where
   abbrev kind-here : Taken
@@ -153,6 +168,9 @@ module _ {plan own : Plan} {s x : List ℕ} {at ix k ps ns w p n : ℕ} {v : Sai
   w-of : w ≡ wordsOf here
   w-of = h .we ∙ sym (big-drop at s 4)
 
+  alone-is : own .points ≡ pointsAlone (kind-here .form)
+  alone-is = ap (λ (q : Plan). q .points) (h .opened .owned .is)
+
   p-of : p ≡ partsOf (kind-here .form) here
   p-of = h .pe ∙ sym (parts-of (kind-here .form) here ∙ ap₂ (λ (b : Bool) (q : ℕ). cond b q 0) (sym (has-parts (h .opened))) (little-drop at s 44))
 
@@ -160,8 +178,14 @@ module _ {plan own : Plan} {s x : List ℕ} {at ix k ps ns w p n : ℕ} {v : Sai
   n-of =
       h .ne
       ∙ sym (points-of (kind-here .form) here
-      ∙ (ap₂ (λ (b : Bool) (q : ℕ). cond b q (pointsAlone (kind-here .form))) (sym (has-parts (h .opened))) (little-drop at s 48)
-      ∙ ap (λ (q : ℕ). cond (own .parts) (littleAt (at + 48) s) q) (sym (ap (λ (q : Plan). q .points) (h .opened .owned .is)))))
+      ∙ rw (← has-parts (h .opened), ← has-several (h .opened), little-drop at s 48, little-drop at s 44, ← alone-is))
+
+  -- the words in front of its points
+  abbrev pub fronts : ℕ
+  fronts = own .front + 2 * p
+
+  fronts-are : frontWords (kind-here .form) (partsOf (kind-here .form) here) ≡ fronts
+  fronts-are = front-more (kind-here .form) here ∙ ap₂ (λ (a b : ℕ). a + 2 * b) (sym (front-is (h .opened))) (sym p-of)
 
   has-rings : own .rings ≡ hasRings (kind-here .kind)
   has-rings = ap (λ (q : Plan). q .rings) (h .opened .owned .is)
@@ -169,25 +193,24 @@ module _ {plan own : Plan} {s x : List ℕ} {at ix k ps ns w p n : ℕ} {v : Sai
   least-of : own .least ≡ leastPoints (kind-here .kind)
   least-of = ap (λ (q : Plan). q .least) (h .opened .owned .is)
 
-  pairs-are : at + (52 + 4 * p) ≡ at + 52 + 4 * p
+  pairs-are : at + (8 + 2 * fronts) ≡ at + 8 + 2 * fronts
   pairs-are = omega arith
 
   -- ---- what its words and its counts have room for
 
-  pub counts-room : own .parts ≡ true → 22 + 2 * p + 8 * n ≤ w
-  counts-room e =
-      let r = counted (h .opened) (h .sized) w (h .we) e in
-      let q : p ≡ littleAt (at + 44) s = rw e at (h .pe) in
-      let m : n ≡ littleAt (at + 48) s = rw e at (h .ne) in
-      omega arith
+  counts-room : own .several ≡ true → own .front + 2 * p + 8 * n ≤ w
+  counts-room e = rw (p-of, n-of) (counted (h .opened) (h .sized) w (h .we) e)
+
+  pub parts-room : own .parts ≡ true → 22 + 2 * p + 8 * n ≤ w
+  parts-room e = rw (front-flags (h .opened), e) at (counts-room (parted-several (h .opened) e))
 
   few-alone : own .points ≤ 1
-  few-alone = rw (ap (λ (q : Plan). q .points) (h .opened .owned .is)) (at-most-one (kind-here .form))
+  few-alone = rw alone-is (at-most-one (kind-here .form))
 
   pub fit : Fit own s x at ix w p n
   fit =
       let r = within (plan .kind) s x at ix k (h .opened .inside) (h .opened .hd) w (h .we) in
-      let q = by-parts (own .parts) (own .points) (littleAt (at + 44) s) (littleAt (at + 48) s) w p n (h .pe) (h .ne) (r .some) few-alone counts-room in
+      let q = by-flags (own .parts) (own .several) (own .points) (littleAt (at + 44) s) (littleAt (at + 48) s) w p n (own .front) (front-flags (h .opened)) (h .pe) (h .ne) (r .some) few-alone (parted-several (h .opened)) counts-room in
       let l : own .least ≡ cond (hasRings (kind-here .kind)) 4 2 = least-of ∙ least-is (kind-here .kind) in
       record {
         held = r .held;
@@ -197,45 +220,45 @@ module _ {plan own : Plan} {s x : List ℕ} {at ix k ps ns w p n : ℕ} {v : Sai
         least-few = rw l (least-more (hasRings (kind-here .kind)) .1);
         few-parts = q .0;
         few-points = q .1;
-        in-parts = q .2;
-        in-front = q .3;
-        in-back = q .4;
+        in-front = q .2;
+        in-parts = q .3;
+        in-box = q .4;
       }
 
   -- ---- the rules of its shape, at its place in the file
 
   abbrev pub begins : Bool
-  begins = beginsOf (own .parts) p (littleAt (at + 52) s)
+  begins = beginsOf (own .parts) (own .several) p n (littleAt (at + 52) s)
 
   abbrev pub long : Bool
   long = partsLong (own .least) p (at + 56) 0 n s
 
   abbrev pub closed : Bool
-  closed = ringsClosed (at + 52 + 4 * p) (cond (own .rings) p 0) (at + 56) 0 n s
+  closed = ringsClosed (at + 8 + 2 * fronts) (cond (own .rings) p 0) (at + 56) 0 n s
 
-  abbrev pub front : Bool
-  front = finites (cond (own .parts) 4 ((w - 2) / 4)) (at + 12) s
+  abbrev pub corners : Bool
+  corners = finites (cond (own .several) 4 0) (at + 12) s
 
   abbrev pub back : Bool
-  back = finites (cond (own .parts) ((w - 22 - 2 * p) / 4) 0) (at + 52 + 4 * p) s
+  back = finites ((w - fronts) / 4) (at + 8 + 2 * fronts) s
 
   rule14 : P14 kind-here here ≡ (begins && long)
   rule14 =
       shape14 kind-here here
-      ∙ rw (← has-parts (h .opened), ← least-of, ← p-of, ← n-of, little-drop at s 52)
+      ∙ rw (← has-parts (h .opened), ← has-several (h .opened), ← least-of, ← p-of, ← n-of, little-drop at s 52)
       (ap (λ (b : Bool). begins && b) (parts-drop at s (own .least) p 56 0 n))
 
   rule15 : P15 kind-here here ≡ closed
   rule15 =
-      shape15 kind-here here (λ e. sym (has-parts (h .opened)) ∙ h .opened .owned .ringed (has-rings ∙ e))
-      ∙ rw (← has-rings, ← p-of, ← n-of) (rings-drop at s (52 + 4 * p) (cond (own .rings) p 0) 56 0 n ∙ rw pairs-are)
+      shape15 kind-here here fronts fronts-are (λ e. sym (has-parts (h .opened)) ∙ h .opened .owned .ringed (has-rings ∙ e))
+      ∙ rw (← has-rings, ← p-of, ← n-of) (rings-drop at s (8 + 2 * fronts) (cond (own .rings) p 0) 56 0 n ∙ rw pairs-are)
 
-  rule16 : P16 kind-here here ≡ (front && back)
+  rule16 : P16 kind-here here ≡ (corners && back)
   rule16 =
-      let e : finites (cond (own .parts) ((w - 22 - 2 * p) / 4) 0) (52 + 4 * p) here ≡ back = finites-drop at s (cond (own .parts) ((w - 22 - 2 * p) / 4) 0) (52 + 4 * p) ∙ rw pairs-are in
-      shape16 kind-here here (h .sized)
-      ∙ rw (← has-parts (h .opened), ← w-of, ← p-of)
-      (ap₂ (λ (a b : Bool). a && b) (finites-drop at s (cond (own .parts) 4 ((w - 2) / 4)) 12) e)
+      let e : finites ((w - fronts) / 4) (8 + 2 * fronts) here ≡ back = finites-drop at s ((w - fronts) / 4) (8 + 2 * fronts) ∙ rw pairs-are in
+      shape16 kind-here here fronts fronts-are
+      ∙ rw (← has-several (h .opened), ← w-of)
+      (ap₂ (λ (a b : Bool). a && b) (finites-drop at s (cond (own .several) 4 0) 12) e)
 
   -- ---- what each of them answers where it is broken
 
@@ -254,10 +277,10 @@ module _ {plan own : Plan} {s x : List ℕ} {at ix k ps ns w p n : ℕ} {v : Sai
       no15 c = fails 15 (λ e. omega arith) (rw (h .sized, rule14, a, b, rule15, c))
 
       module _ (c : closed ≡ true) where
-        pub no16-front : front ≡ false → fault 16 (k + 1) ≡ v
-        no16-front d = fails 16 (λ e. omega arith) (rw (h .sized, rule14, a, b, rule15, c, rule16, d))
+        pub no16-box : corners ≡ false → fault 16 (k + 1) ≡ v
+        no16-box d = fails 16 (λ e. omega arith) (rw (h .sized, rule14, a, b, rule15, c, rule16, d))
 
-        module _ (d : front ≡ true) where
+        module _ (d : corners ≡ true) where
           pub no16 : back ≡ false → fault 16 (k + 1) ≡ v
           no16 e = fails 16 (λ e. omega arith) (rw (h .sized, rule14, a, b, rule15, c, rule16, d, e))
 

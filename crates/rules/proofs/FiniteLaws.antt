@@ -1,6 +1,6 @@
--- Doubles that are finite: P16 of the bytes, said of the numbers that stand there.
-use mathlib.Core.Path.{_≡_, refl}
-use mathlib.Core.Bool.{true, _&&_}
+-- Doubles that are finite: P16 of the bytes, said of the numbers that stand there; and where the points stand, which P15 reads too.
+use mathlib.Core.Path.{_≡_, refl, _∙_}
+use mathlib.Core.Bool.{true, cond, _&&_}
 use mathlib.Core.List.{List, _∷_}
 use Prim.Native.Nat.{ℕ, zero, suc, _+_, _*_, _-_, _/_, _≤_}
 use native.Mathlib.Omega.{arith}
@@ -8,11 +8,11 @@ use lib.ListN.{length}
 use Rattle.format.specs.Bytes.{le, field}
 use Rattle.format.specs.Lengths.{Form, frontWords}
 use Rattle.format.specs.Numbers.{finite}
-use Rattle.format.specs.WellFormed.{AllFinite}
+use Rattle.format.specs.WellFormed.{hasRings, AllFinite}
 use Rattle.format.proofs.ByteLaws.{AllBytes, le-field-lt}
 use Rattle.format.proofs.OrderLaws.{both-true}
 use Rattle.format.proofs.Runs.{numbers, numbers-zero, numbers-suc}
-use Rattle.rules.specs.Rules.{Taken, wordsOf, partsOf, finites, pairsAt, boxDoubles, P16}
+use Rattle.rules.specs.Rules.{Taken, littleAt, wordsOf, partsOf, finites, ringsClosed, pairsAt, boxDoubles, P15, P16}
 
 pub finites-true : (n at : ℕ) (s : List ℕ) → AllFinite (numbers 8 n at s) → finites n at s ≡ true
 unfolding finites
@@ -37,10 +37,16 @@ pub pairs-at : (form : Form) (l : List ℕ) → pairsAt form l ≡ 8 + 2 * front
 unfolding pairsAt
 pairs-at form l = refl
 
--- the rule, where the words leave so many doubles behind those in front of the points
-pub rule16 : (t : Taken) (l : List ℕ) (front count : ℕ) → frontWords (t .form) (partsOf (t .form) l) ≡ front → wordsOf l ≡ front + 4 * count
-    → P16 t l ≡ (finites (boxDoubles (t .form)) 12 l && finites count (8 + 2 * front) l)
-unfolding pairsAt
-rule16 t l front count f w =
-    let e : (wordsOf l - front) / 4 ≡ count = omega arith in
-    rw (f, e)
+-- the rules that read them, with so many words in front of them
+module _ (t : Taken) (l : List ℕ) (front : ℕ) (f : frontWords (t .form) (partsOf (t .form) l) ≡ front) where
+  pub at15 : P15 t l ≡ cond (hasRings (t .kind)) (ringsClosed (8 + 2 * front) (littleAt 44 l) 56 0 (littleAt 48 l) l) true
+  unfolding pairsAt
+  at15 = rw f
+
+  pub at16 : P16 t l ≡ (finites (boxDoubles (t .form)) 12 l && finites ((wordsOf l - front) / 4) (8 + 2 * front) l)
+  unfolding pairsAt
+  at16 = rw f
+
+  -- where the words leave so many doubles
+  pub rule16 : (count : ℕ) → wordsOf l ≡ front + 4 * count → P16 t l ≡ (finites (boxDoubles (t .form)) 12 l && finites count (8 + 2 * front) l)
+  rule16 count w = let e : (wordsOf l - front) / 4 ≡ count = omega arith in at16 ∙ rw e

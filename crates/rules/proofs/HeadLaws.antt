@@ -9,9 +9,8 @@ use lib.Dec.{leb, ltb, eqb}
 use lib.ListN.{length}
 use borrow.Author.Tests.{lt-ltb, le-ltb, le-leb, lt-leb, eq-eqb, ne-eqb, ltb-true, leb-true, eqb-true}
 use Rattle.format.specs.declared.kinds.Kind.{Kind}
-use Rattle.format.specs.Lengths.{nothing, severalForm, mayLackM, frontWords, contentWords, lengthsFor, formulaWords}
+use Rattle.format.specs.Lengths.{severalForm, mayLackM, frontWords, contentWords, lengthsFor, formulaWords}
 use Rattle.format.proofs.Equations.{words-are}
-use Rattle.format.proofs.Laid.{nothing-words}
 use Rattle.format.proofs.LengthLaws.{least-words}
 use Rattle.format.proofs.OrderLaws.{both-true}
 use Rattle.rules.specs.Rules.{Taken, bigAt, littleAt, held, wordsOf, partsOf, pointsOf, P9, P10, P11, P12, P13}
@@ -96,11 +95,6 @@ fits13 t l = rw (words-are (t .form) (t .kind .z) (cond (mayLackM (t .form)) fal
 either : (a b : Bool) → (a || b) ≡ true → (a ≡ true) ⊎ (b ≡ true)
 either true b e = inl refl
 either false b e = inr e
-
-pub null-words : (k : Kind) (l : List ℕ) → P13 (record { kind = k; form = nothing }) l ≡ true → wordsOf l ≡ 2
-null-words k l e =
-    let w = nothing-words (k .z) (k .m) in
-    ⊎-elim (λ q. eqb-true (wordsOf l) _ q ∙ w) (λ q. eqb-true (wordsOf l) _ q ∙ w) (either (eqb (wordsOf l) _) (eqb (wordsOf l) _) e)
 
 -- several points
 module _ (f : Bool) (t : Taken) (l : List ℕ) (h : t .form ≡ severalForm f) where
