@@ -19,33 +19,35 @@ looked c = c .find-kind .ensures ∙ ap kindOf (toZ-ofZ w32 _ (c .before .fits .
 kind-is : (c : tie.After-known-told) → kindAt (c .before .before .before .before .args .code) ≡ some (c .before .kind .given .0 .0)
 kind-is c = kind-found _ _ (looked (c .before .before .before)) _ (c .before .kind .given .1)
 
-measured : (c : tie.After-lengths-of) → saidContent (c .lengths-of .result) ≡ contentOf (c .before .before .before .before .before .before .args .code)
-measured c = c .lengths-of .ensures ∙ ap contentOf (toZ-ofZ w32 _ (c .before .before .before .before .before .before .fits .code))
+measured : (c : tie.After-lengths-of) → saidContent (c .lengths-of .result) ≡ contentOf (c .before .before .before .before .before .before .before .args .code)
+measured c = c .lengths-of .ensures ∙ ap contentOf (toZ-ofZ w32 _ (c .before .before .before .before .before .before .before .fits .code))
 
 returns : tie.Need-returns
 returns c = unknown (c .before .before .before .args .code) (none-found _ _ (looked (c .before .before)) _ (c .enum-told .given .1))
 
 returns-2 : tie.Need-returns-2
 returns-2 c =
-    let d = c .before .before .before in
+    let d = c .before .before .before .before in
     let l = d .before .before in
-    let k = l .before .before in
-    is-taken (k .before .before .before .before .args .code) _ _ _ _ _ (kind-is k) (content-some _ _ (kind-is k) _ (measured l) _ (d .lengths .given .1))
-    (c .before .points-alone .ensures)
-    (l .before .has-rings .ensures)
+    let k = l .before .before .before in
+    is-taken (k .before .before .before .before .args .code) _ _ _ _ _ _ _ (kind-is k) (content-some _ _ (kind-is k) _ (measured l) _ (d .lengths .given .1))
+    (l .before .has-several .ensures)
+    (c .before .before .points-alone .ensures)
+    (c .before .front-words .ensures)
+    (l .before .before .has-rings .ensures)
     (c .least-points .ensures)
 
 returns-3 : tie.Need-returns-3
 returns-3 c =
     let l = c .before .before in
-    let k = l .before .before in
+    let k = l .before .before .before in
     not-taken (k .before .before .before .before .args .code) _ (kind-is k) (content-none _ _ (kind-is k) _ (measured l) _ (c .enum-told2 .given .1))
 
 -- a kind that was found is not unknown
 returns-4 : tie.Need-returns-4
 returns-4 c =
     let l = c .before .before in
-    absurd (content-known _ _ (kind-is (l .before .before)) _ (measured l) _ (c .enum-told3 .given .1))
+    absurd (content-known _ _ (kind-is (l .before .before .before)) _ (measured l) _ (c .enum-told3 .given .1))
 
 pub plan-of-spec : {M : Type 1} → statement M
 plan-of-spec =
@@ -53,7 +55,7 @@ plan-of-spec =
     (tie.spec
     (λ c κs. search needs) (λ c. search needs) (λ c. search needs)
     returns
-    (λ c κs. search needs) (λ c κs. search needs) (λ c. search needs) (λ c κs. search needs) (λ c κs. search needs)
+    (λ c κs. search needs) (λ c κs. search needs) (λ c κs. search needs) (λ c. search needs) (λ c κs. search needs) (λ c κs. search needs) (λ c κs. search needs)
     (λ c. search needs) (λ c. search needs)
     returns-2
     returns-3
