@@ -68,8 +68,8 @@ one-body = told-one saidBody tellBody back
 one-store : {A : Type 0} (r q : Said Body) (before after x y : List A) → r ≡ q → x ≡ unlessRefused r before after → y ≡ unlessRefused q before after → x ≡ y
 one-store r q before after x y e p o = p ∙ (ap (λ t. unlessRefused t before after) e ∙ sym o)
 
-module _ (z m : Bool) (s counts : List ℕ) (xy zs ms : List Float) (a b : BodyAnswer) (counts₁ counts₂ : List ℕ) (xy₁ xy₂ zs₁ zs₂ ms₁ ms₂ : List Float) where
-  pub one-result : ReadsBody z m s counts xy zs ms a counts₁ xy₁ zs₁ ms₁ → ReadsBody z m s counts xy zs ms b counts₂ xy₂ zs₂ ms₂ → (a ≡ b) × (counts₁ ≡ counts₂) × (xy₁ ≡ xy₂) × (zs₁ ≡ zs₂) × (ms₁ ≡ ms₂)
+module _ (parts z m : Bool) (s counts : List ℕ) (xy zs ms : List Float) (a b : BodyAnswer) (counts₁ counts₂ : List ℕ) (xy₁ xy₂ zs₁ zs₂ ms₁ ms₂ : List Float) where
+  pub one-result : ReadsBody parts z m s counts xy zs ms a counts₁ xy₁ zs₁ ms₁ → ReadsBody parts z m s counts xy zs ms b counts₂ xy₂ zs₂ ms₂ → (a ≡ b) × (counts₁ ≡ counts₂) × (xy₁ ≡ xy₂) × (zs₁ ≡ zs₂) × (ms₁ ≡ ms₂)
   one-result p q =
       let e : saidBody a ≡ saidBody b = p .says ∙ sym (q .says) in (
         one-body a b e,

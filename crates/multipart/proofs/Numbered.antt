@@ -9,12 +9,16 @@ use Rattle.format.specs.Said.{Said, gives, short, Numbered}
 use Rattle.format.proofs.OrderLaws.{AllNumbered, first-numbered, append-numbered, fields-numbered}
 use Rattle.multipart.specs.declared.Body.{Body}
 use Rattle.multipart.specs.Answers.{Two, countsOf}
-use Rattle.multipart.specs.Body.{partsIn, differencesIn, pointsIn, pairsAt, zAt, mAt, bodyIn, countTests, partTests, measureTests, restTests, roomTests, bodyOf}
+use Rattle.multipart.specs.Body.{partsIn, pointsIn, pairsAt, zAt, mAt, bodyIn, countTests, partTests, measureTests, pairTests, restTests, roomTests, bodyOf}
 use Rattle.multipart.specs.Parts.{countOf}
 
-pub counts-numbered : (s : List ℕ) → Numbered (countsOf s)
+all-counts : (A : Type 0) (parts : Bool) (s : List ℕ) → AllNumbered (countTests {A = A} parts s)
+all-counts A true s = omega arith
+all-counts A false s = omega arith
+
+pub counts-numbered : (parts : Bool) (s : List ℕ) → Numbered (countsOf parts s)
 unfolding countsOf
-counts-numbered s = first-numbered {A = Two} (countTests s) (gives _) (omega arith) tt
+counts-numbered parts s = first-numbered {A = Two} (countTests parts s) (gives _) (all-counts Two parts s) tt
 
 parts-numbered : (start at : ℕ) (ds : List ℤ) (s : List ℕ) → AllNumbered (partTests {A = Body} start at ds s)
 unfolding partTests
@@ -26,16 +30,21 @@ measure-numbered : (flag : Bool) (n at : ℕ) (s : List ℕ) → AllNumbered (me
 measure-numbered true n at s = fields-numbered Body 8 (2 + n) at s
 measure-numbered false n at s = tt
 
-rest-numbered : (z m : Bool) (s : List ℕ) → AllNumbered (restTests {A = Body} z m s)
-rest-numbered z m s =
-    append-numbered (fieldsFrom 4 (partsIn s) 40 s short) _ (fields-numbered Body 4 (partsIn s) 40 s)
-    (append-numbered (partTests 40 (pairsAt s) (differencesIn s) s) _ (parts-numbered 40 _ _ s)
-    (append-numbered (measureTests z (pointsIn s) (zAt s) s) _ (measure-numbered z (pointsIn s) (zAt s) s) (measure-numbered m (pointsIn s) (mAt z s) s)))
+pairs-numbered : (parts : Bool) (s : List ℕ) → AllNumbered (pairTests {A = Body} parts s)
+pairs-numbered true s =
+    append-numbered (fieldsFrom 4 (partsIn true s) 40 s short) _ (fields-numbered Body 4 (partsIn true s) 40 s) (parts-numbered 40 _ _ s)
+pairs-numbered false s = fields-numbered Body 8 (2 * pointsIn false s) (pairsAt false s) s
 
-pub body-numbered : (z m : Bool) (s : List ℕ) (counts xy zs ms : ℕ) → Numbered (bodyOf z m s counts xy zs ms)
+rest-numbered : (parts z m : Bool) (s : List ℕ) → AllNumbered (restTests {A = Body} parts z m s)
+rest-numbered parts z m s =
+    let n : ℕ = pointsIn parts s in
+    append-numbered (pairTests parts s) _ (pairs-numbered parts s)
+    (append-numbered (measureTests z n (zAt parts s) s) _ (measure-numbered z n (zAt parts s) s) (measure-numbered m n (mAt parts z s) s))
+
+pub body-numbered : (parts z m : Bool) (s : List ℕ) (counts xy zs ms : ℕ) → Numbered (bodyOf parts z m s counts xy zs ms)
 unfolding bodyOf
-body-numbered z m s counts xy zs ms =
-    let last : List (Bool × Said Body) = roomTests z m s counts xy zs ms in
-    let more = restTests z m s ++ last in
-    first-numbered (countTests s ++ more) (gives (bodyIn z m s))
-    (append-numbered (countTests s) more (omega arith) (append-numbered (restTests z m s) last (rest-numbered z m s) (omega arith))) tt
+body-numbered parts z m s counts xy zs ms =
+    let last : List (Bool × Said Body) = roomTests parts z m s counts xy zs ms in
+    let more = restTests parts z m s ++ last in
+    first-numbered (countTests parts s ++ more) (gives (bodyIn parts z m s))
+    (append-numbered (countTests parts s) more (all-counts Body parts s) (append-numbered (restTests parts z m s) last (rest-numbered parts z m s) (omega arith))) tt

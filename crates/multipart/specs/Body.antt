@@ -1,6 +1,6 @@
 -- Reading a body of several points with given flags, in parts or as a multipoint, with z or m or without: what it holds, and the tests in the order
 -- in which document 01 judges them.
-use mathlib.Core.Bool.{Bool, cond, _&&_, _||_, not}
+use mathlib.Core.Bool.{Bool, true, false, cond, _&&_, _||_, not}
 use mathlib.Core.List.{List, [], _∷_, _++_, map}
 use Prim.Native.Nat.{ℕ, _+_, _*_}
 use lib.Dec.{leb, ltb}
@@ -95,14 +95,11 @@ hasRoom z m p n counts xy zs ms = leb p counts && leb (2 * n) xy && (not z || le
 module _ {A : Type 0} where
   -- box xy, then p and n, or n alone; then 3 if p is negative, else if n is
   abbrev pub countTests : Bool → List ℕ → List (Bool × Said A)
-  countTests true s =
+  countTests parts s =
       fieldsFrom 8 4 0 s short
       ++ (fieldAt 4 32 s short
-      ∷ fieldAt 4 36 s short
-      ∷ (nonNeg (leI32 32 s), wrongSize 32)
-      ∷ (nonNeg (leI32 36 s), wrongSize 36)
-      ∷ [])
-  countTests false s = fieldsFrom 8 4 0 s short ++ (fieldAt 4 32 s short ∷ (nonNeg (leI32 32 s), wrongSize 32) ∷ [])
+      ∷ cond parts (fieldAt 4 36 s short ∷ (nonNeg (leI32 32 s), wrongSize 32) ∷ (nonNeg (leI32 36 s), wrongSize 36) ∷ [])
+      ((nonNeg (leI32 32 s), wrongSize 32) ∷ []))
 
   -- each part in turn: its difference, named by the place of its start, then so many pairs from where the last one ended
   unfoldable pub partTests : ℕ → ℕ → List ℤ → List ℕ → List (Bool × Said A)

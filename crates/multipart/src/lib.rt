@@ -76,23 +76,23 @@ pub fn read_counts(s: &[u8], parts: bool) -> CountsAnswer
         return CountsAnswer::Short(32, len - 32);
     }
     let p = fields::le_i32_at(s, 32);
-    if !parts {
+    if parts {
+        if len < 40 {
+            return CountsAnswer::Short(36, len - 36);
+        }
+        let n = fields::le_i32_at(s, 36);
         if p < 0 {
             return CountsAnswer::Size(32);
         }
-        return CountsAnswer::Are(0, p as u32);
+        if n < 0 {
+            return CountsAnswer::Size(36);
+        }
+        return CountsAnswer::Are(p as u32, n as u32);
     }
-    if len < 40 {
-        return CountsAnswer::Short(36, len - 36);
-    }
-    let n = fields::le_i32_at(s, 36);
     if p < 0 {
         return CountsAnswer::Size(32);
     }
-    if n < 0 {
-        return CountsAnswer::Size(36);
-    }
-    CountsAnswer::Are(p as u32, n as u32)
+    CountsAnswer::Are(0, p as u32)
 }
 
 // The rest of a body whose counts are well, with p parts.
@@ -116,7 +116,19 @@ fn read_rest(
         Walk::Size(at) => BodyAnswer::Size(at),
         Walk::On(points) => {
             if store::has_room(z, m, p, points, counts.len(), xy.len(), zs.len(), ms.len()) {
-                BodyAnswer::Whole(store::store_body(s, parts, z, m, p, n, points, counts, xy, zs, ms))
+                BodyAnswer::Whole(store::store_body(
+                    s,
+                    parts,
+                    z,
+                    m,
+                    p,
+                    n,
+                    points,
+                    counts,
+                    xy,
+                    zs,
+                    ms,
+                ))
             } else {
                 BodyAnswer::Room(p, points)
             }

@@ -28,20 +28,22 @@ fn count_at(s: &[u8], start: usize, follow: usize, n: i32) -> u32
     }
 }
 
-// One count for each of p parts.
-fn store_counts(s: &[u8], p: usize, n: i32, counts: &mut [u32])
-    requires { ⌜ (40 + 4 * p ≤ length (now s)) × (p ≤ length (now counts)) ⌝ }
-    ensures { λ _. ⌜ now (counts .exit) ≡ sets (now (counts .entry)) 0 (map countOf (differencesOf p n (now (s .entry)))) ⌝ }
+// One count for each of p parts, where the flag is set: a multipoint has none.
+fn store_counts(s: &[u8], parts: bool, p: usize, n: i32, counts: &mut [u32])
+    requires { ⌜ (cond parts (40 + 4 * p) 0 ≤ length (now s)) × (p ≤ length (now counts)) ⌝ }
+    ensures { λ _. ⌜ now (counts .exit) ≡ sets (now (counts .entry)) 0 (cond parts (map countOf (differencesOf p n (now (s .entry)))) []) ⌝ }
 {
-    let mut left = p;
-    let mut start: usize = 40;
-    let mut i: usize = 0;
-    while 0 < left {
-        left -= 1;
-        let k = count_at(s, start, left, n);
-        counts[i] = k;
-        i += 1;
-        start += 4;
+    if parts {
+        let mut left = p;
+        let mut start: usize = 40;
+        let mut i: usize = 0;
+        while 0 < left {
+            left -= 1;
+            let k = count_at(s, start, left, n);
+            counts[i] = k;
+            i += 1;
+            start += 4;
+        }
     }
 }
 
@@ -183,9 +185,7 @@ pub(crate) fn store_body(
 {
     let at = judge::pairs_at(parts, p);
     let end = at + 16 * points;
-    if parts {
-        store_counts(s, p, n, counts);
-    }
+    store_counts(s, parts, p, n, counts);
     store_pairs(s, at, points, xy);
     store_z(s, z, points, end, zs);
     store_m(s, m, points, judge::end_after(z, points, end), ms);
