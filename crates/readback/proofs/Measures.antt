@@ -1,4 +1,4 @@
--- Z or m of a shape with parts, where its bytes stand: the range and the values that are found there are its own.
+-- Z or m of several points, where its bytes stand: the range and the values that are found there are its own.
 use mathlib.Core.Path.{_≡_, refl}
 use mathlib.Core.Bool.{Bool, true, false, cond}
 use mathlib.Core.List.{List, [], _∷_, _++_, map, flatten}
@@ -26,6 +26,11 @@ pub length-laid : (n : ℕ) (o : Option Measure) → Covers n o → length (laid
 unfolding flatten
 length-laid n none c = refl
 length-laid n (some r) c = omega (arith, length-run 8 (r .low ∷ r .high ∷ r .values))
+
+-- and their number, from that of its doubles
+pub measure-size : (flag : Bool) (n : ℕ) → 8 * cond flag (2 + n) 0 ≡ cond flag (16 + 8 * n) 0
+measure-size true n = omega arith
+measure-size false n = refl
 
 module _ (n at : ℕ) (s : List ℕ) where
   pub range-back : (o : Option Measure) → measureHeld o → Stands at (laid n o) s → cond (there o) (rangeAt at s) noRange ≡ rangeOf o

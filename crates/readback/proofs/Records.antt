@@ -7,7 +7,7 @@ use lib.ListN.{length, getD}
 use Rattle.format.specs.declared.kinds.Kind.{Kind}
 use Rattle.format.specs.Encoding.{content, shapeWords}
 use Rattle.format.specs.Lengths.{nothing}
-use Rattle.format.specs.Shapes.{Shape, null, point, parted, OfKind, ownKind}
+use Rattle.format.specs.Shapes.{Shape, null, point, multipoint, parted, OfKind, ownKind}
 use Rattle.format.specs.WellFormed.{WellFormed}
 use Rattle.format.proofs.ByteLaws.{length-field}
 use Rattle.format.proofs.Laid.{length-content}
@@ -28,6 +28,7 @@ well-at k (s ∷ ss) (suc i) f h = well-at k ss i (f .2) (omega arith)
 own-taken : (k : Kind) (s : Shape) → TakenKind k → TakenKind (ownKind k s)
 own-taken k null t = record { form = nothing; in-table = null-row; taken = null-form }
 own-taken k (point xy z m) t = t
+own-taken k (multipoint s) t = t
 own-taken k (parted s) t = t
 
 pub reads-records : ReadsRecords
