@@ -2,42 +2,54 @@
 use mathlib.Core.Path.{_≡_, refl, sym, ap, _∙_}
 use mathlib.Core.Bool.{Bool, true, false, cond}
 use mathlib.Core.List.{List, [], _∷_, _++_, append-assoc}
-use Prim.Native.Nat.{ℕ, _+_, _*_, _≤_}
+use Prim.Native.Nat.{ℕ, _+_, _*_, _%_, _≤_}
 use native.Mathlib.Omega.{arith}
 use lib.Ieee.{Float}
 use lib.ListN.{length, length-append}
 use lib.Seq.{sets}
 use Rattle.format.specs.Bytes.{leBytes}
-use Rattle.format.specs.Encoding.{measureBytes, partsBytes}
+use Rattle.format.specs.Encoding.{measureBytes, pointsBytes, shapeBytes}
+use Rattle.format.specs.Lengths.{severalForm, frontWords}
 use Rattle.format.specs.Numbers.{little, f64sLe}
 use Rattle.format.specs.Shapes.{sum}
-use Rattle.format.proofs.Equations.{little-is, boxBytes-is, partsBytes-is}
-use Rattle.format.proofs.Laid.{measure-doubles, parts-words}
+use Rattle.format.proofs.Equations.{little-is, boxBytes-is, pointsBytes-is, multipointBytes-is, partsBytes-is, shape-multipoint, shape-parted, front-many, front-parts}
+use Rattle.format.proofs.Laid.{measure-doubles, several-words}
 use Rattle.format.proofs.LayoutLaws.{onto}
 use Rattle.format.proofs.NumberLaws.{length-little, length-f64sLe, f64sLe-append, doubles-bits}
 use Rattle.header.specs.declared.bbox.BBoxZ.{BBoxZ}
 use Rattle.layouts.specs.Answers.{bodySize}
-use Rattle.layouts.specs.Steps.{measureSize, startsBytes, corners, frontBytes, Agreed}
-use Rattle.layouts.specs.Tables.{pointsOf, measureOf, partsOf}
+use Rattle.layouts.specs.Steps.{measureSize, startsBytes, corners, countsBytes, frontBytes, frontSize, Agreed}
+use Rattle.layouts.specs.Tables.{pointsOf, measureOf, partsOf, multipointOf, severalOf, pointsLent}
 use Rattle.layouts.proofs.TableLaws.{length-points, points-bytes, split-length, split-whole, split-starts, length-starts}
 
 -- ---- box, counts and starts
 
-module _ (b : BBoxZ) (counts : List ℕ) (n : ℕ) where
-  length-front : length (frontBytes b counts n) ≡ 40 + 4 * length counts
-  unfolding frontBytes
-  length-front = simp (length-append, length-little, length-f64sLe, length-starts) (omega arith)
-
-  pub front-stored : (out l1 l2 l3 l4 : List ℕ) → l1 ≡ sets out 0 (f64sLe (corners b)) → l2 ≡ sets l1 32 (leBytes 4 (length counts)) → l3 ≡ sets l2 36 (leBytes 4 n) → l4 ≡ sets l3 40 (startsBytes 0 counts) → l4 ≡ sets out 0 (frontBytes b counts n)
-  unfolding frontBytes
-  front-stored out l1 l2 l3 l4 e1 e2 e3 e4 =
-      let a = f64sLe (corners b) in
+module _ (counts : List ℕ) (n : ℕ) where
+  pub counts-stored : (parts : Bool) → parts ≡ true → (out l1 l2 l3 : List ℕ) → l1 ≡ sets out 32 (leBytes 4 (length counts)) → l2 ≡ sets l1 36 (leBytes 4 n) → l3 ≡ sets l2 40 (startsBytes 0 counts) → l3 ≡ sets out 32 (countsBytes parts counts n)
+  unfolding countsBytes
+  counts-stored parts f out l1 l2 l3 e1 e2 e3 =
       let p = little (length counts) in
-      let s2 = onto out l1 l2 a p 0 32 (simp length-f64sLe) e1 (rw little-is e2) in
-      let s3 = onto out l2 l3 (a ++ p) (little n) 0 36 (simp (length-append, length-f64sLe, length-little)) s2 (rw little-is e3) in
-      let s4 = onto out l3 l4 (a ++ p ++ little n) (startsBytes 0 counts) 0 40 (simp (length-append, length-f64sLe, length-little)) s3 e4 in
-      let e : a ++ p ++ little n ++ startsBytes 0 counts ≡ frontBytes b counts n = simp append-assoc in
-      s4 ∙ ap (sets out 0) e
+      let s2 = onto out l1 l2 p (little n) 32 36 (simp length-little) (rw little-is e1) (rw little-is e2) in
+      let s3 = onto out l2 l3 (p ++ little n) (startsBytes 0 counts) 32 40 (simp (length-append, length-little)) s2 e3 in
+      rw f (s3 ∙ ap (sets out 32) (append-assoc p (little n) (startsBytes 0 counts)))
+
+  pub number-stored : (parts : Bool) → parts ≡ false → (out l : List ℕ) → l ≡ sets out 32 (leBytes 4 n) → l ≡ sets out 32 (countsBytes parts counts n)
+  unfolding countsBytes
+  number-stored parts f out l e = rw (f, little-is) e
+
+  length-counts : (parts : Bool) → 32 + length (countsBytes parts counts n) ≡ frontSize parts (length counts)
+  unfolding countsBytes
+  length-counts true = simp (length-append, length-little, length-starts) (omega arith)
+  length-counts false = simp length-little
+
+  module _ (parts : Bool) (b : BBoxZ) where
+    length-front : length (frontBytes parts b counts n) ≡ frontSize parts (length counts)
+    unfolding frontBytes
+    length-front = length-append (f64sLe (corners b)) (countsBytes parts counts n) ∙ omega (arith, length-f64sLe (corners b), length-counts parts)
+
+    pub front-stored : (out l1 l2 : List ℕ) → l1 ≡ sets out 0 (f64sLe (corners b)) → l2 ≡ sets l1 32 (countsBytes parts counts n) → l2 ≡ sets out 0 (frontBytes parts b counts n)
+    unfolding frontBytes
+    front-stored out l1 l2 e1 e2 = onto out l1 l2 (f64sLe (corners b)) (countsBytes parts counts n) 0 32 (simp length-f64sLe) e1 e2
 
 -- ---- a range and its values
 
@@ -56,14 +68,30 @@ module _ (low high : Float) (values : List Float) where
   length-measure true n e = ap length measure-is ∙ simp (length-append, length-f64sLe) (omega arith)
   length-measure false n e = refl
 
--- ---- the whole body
+-- ---- how many bytes
 
-pub size-is : (z m : Bool) (p n : ℕ) → 40 + 4 * p + 16 * n + measureSize z n + measureSize m n ≡ bodySize z m p n
+-- the words in front, without the kind's field
+front-words : (parts : Bool) (p : ℕ) → 4 + frontSize parts p ≡ 2 * frontWords (severalForm parts) p
+front-words true p = omega (arith, front-parts p)
+front-words false p = omega (arith, front-many p)
+
+pub parts-front : (parts : Bool) (p : ℕ) → parts ≡ true → frontSize parts p ≡ 40 + 4 * p
+parts-front parts p e = rw e
+
+pub front-least : (parts : Bool) (p : ℕ) → 36 ≤ frontSize parts p
+front-least true p = omega arith
+front-least false p = omega arith
+
+pub front-most : (parts : Bool) (p : ℕ) → frontSize parts p ≤ 40 + 4 * p
+front-most true p = omega arith
+front-most false p = omega arith
+
+pub size-is : (parts z m : Bool) (p n : ℕ) → (parts ≡ false → p ≡ 0) → frontSize parts p + 16 * n + measureSize z n + measureSize m n ≡ bodySize parts z m p n
 unfolding bodySize
-size-is true true p n = omega (arith, parts-words true true p n)
-size-is true false p n = omega (arith, parts-words true false p n)
-size-is false true p n = omega (arith, parts-words false true p n)
-size-is false false p n = omega (arith, parts-words false false p n)
+size-is parts true true p n h = omega (arith, front-words parts p, several-words parts true true p n h)
+size-is parts true false p n h = omega (arith, front-words parts p, several-words parts true false p n h)
+size-is parts false true p n h = omega (arith, front-words parts p, several-words parts false true p n h)
+size-is parts false false p n h = omega (arith, front-words parts p, several-words parts false false p n h)
 
 pub size-most : (flag : Bool) (n : ℕ) → measureSize flag n ≤ 16 + 8 * n
 size-most true n = omega arith
@@ -74,6 +102,8 @@ pub same-size : (flag : Bool) (k n : ℕ) → k ≡ cond flag n 0 → measureSiz
 same-size true k n e = ap (λ (i : ℕ). 16 + 8 * i) e
 same-size false k n e = refl
 
+-- ---- the whole body
+
 module _ (z m : Bool) (b : BBoxZ) (counts : List ℕ) (xy zs ms : List Float) where
   abbrev zRun : List ℕ
   zRun = run z (b .zmin) (b .zmax) zs
@@ -81,40 +111,53 @@ module _ (z m : Bool) (b : BBoxZ) (counts : List ℕ) (xy zs ms : List Float) wh
   abbrev mRun : List ℕ
   mRun = run m (b .mmin) (b .mmax) ms
 
-  module _ (h : Agreed z m (sum counts) xy zs ms) where
-    points : sum counts ≡ length (pointsOf xy)
-    points = omega (arith, h .xy-has, length-points xy)
+  -- the points, z and m, in parts or not
+  points-run : length xy % 2 ≡ 0 → pointsBytes (pointsOf xy) (measureOf z (b .zmin) (b .zmax) zs) (measureOf m (b .mmin) (b .mmax) ms) ≡ f64sLe xy ++ (zRun ++ mRun)
+  points-run e = rw (pointsBytes-is, points-bytes xy e)
 
-    pub body-is : partsBytes (partsOf z m b counts xy zs ms) ≡ frontBytes b counts (sum counts) ++ (f64sLe xy ++ (zRun ++ mRun))
-    unfolding partsOf frontBytes
-    body-is =
-        rw (
-          partsBytes-is,
-          boxBytes-is,
-          doubles-bits (corners b),
-          split-length counts (pointsOf xy),
-          split-whole counts (pointsOf xy) points,
-          split-starts counts (pointsOf xy) 0 points,
-          ← points,
-          points-bytes xy (omega (arith, h .xy-has)),
-        )
-        (simp append-assoc)
+  body-is : (parts : Bool) → length xy ≡ 2 * pointsLent parts counts xy
+      → shapeBytes (severalOf parts z m b counts xy zs ms) ≡ frontBytes parts b counts (pointsLent parts counts xy) ++ (f64sLe xy ++ (zRun ++ mRun))
+  unfolding partsOf multipointOf frontBytes countsBytes
+  body-is true e =
+      let n : sum counts ≡ length (pointsOf xy) = omega (arith, length-points xy) in
+      rw (
+        shape-parted,
+        partsBytes-is,
+        boxBytes-is,
+        doubles-bits (corners b),
+        split-length counts (pointsOf xy),
+        split-whole counts (pointsOf xy) n,
+        split-starts counts (pointsOf xy) 0 n,
+        ← n,
+        points-run (omega arith),
+      )
+      (simp append-assoc)
+  body-is false e =
+      rw (shape-multipoint, multipointBytes-is, boxBytes-is, doubles-bits (corners b), length-points xy, points-run (omega arith)) (simp append-assoc)
 
-    xy-length : length (f64sLe xy) ≡ 16 * sum counts
+  module _ (parts : Bool) (h : Agreed z m (pointsLent parts counts xy) xy zs ms) where
+    abbrev n : ℕ
+    n = pointsLent parts counts xy
+
+    abbrev start : ℕ
+    start = frontSize parts (length counts)
+
+    xy-length : length (f64sLe xy) ≡ 16 * n
     xy-length = length-f64sLe xy ∙ omega (arith, h .xy-has)
 
-    z-length : length zRun ≡ measureSize z (sum counts)
-    z-length = length-measure (b .zmin) (b .zmax) zs z (sum counts) (h .zs-has)
+    z-length : length zRun ≡ measureSize z n
+    z-length = length-measure (b .zmin) (b .zmax) zs z n (h .zs-has)
 
-    stored : (out l1 l2 l3 l4 : List ℕ) → l1 ≡ sets out 0 (frontBytes b counts (sum counts)) → l2 ≡ sets l1 (40 + 4 * length counts) (f64sLe xy) → l3 ≡ sets l2 (40 + 4 * length counts + 16 * sum counts) zRun → l4 ≡ sets l3 (40 + 4 * length counts + 16 * sum counts + measureSize z (sum counts)) mRun → l4 ≡ sets out 0 (partsBytes (partsOf z m b counts xy zs ms))
+    stored : (out l1 l2 l3 l4 : List ℕ) → l1 ≡ sets out 0 (frontBytes parts b counts n) → l2 ≡ sets l1 start (f64sLe xy) → l3 ≡ sets l2 (start + 16 * n) zRun → l4 ≡ sets l3 (start + 16 * n + measureSize z n) mRun → l4 ≡ sets out 0 (shapeBytes (severalOf parts z m b counts xy zs ms))
     stored out l1 l2 l3 l4 e1 e2 e3 e4 =
-        let f = frontBytes b counts (sum counts) in
-        let s2 = onto out l1 l2 f (f64sLe xy) 0 _ (simp length-front (omega arith)) e1 e2 in
-        let s3 = onto out l2 l3 (f ++ f64sLe xy) zRun 0 _ (simp (length-append, length-front, xy-length) (omega arith)) s2 e3 in
-        let s4 = onto out l3 l4 (f ++ f64sLe xy ++ zRun) mRun 0 _ (simp (length-append, length-front, xy-length, z-length) (omega arith)) s3 e4 in
+        let f = frontBytes parts b counts n in
+        let f-length = length-front counts n parts b in
+        let s2 = onto out l1 l2 f (f64sLe xy) 0 _ (omega (arith, f-length)) e1 e2 in
+        let s3 = onto out l2 l3 (f ++ f64sLe xy) zRun 0 _ (simp (length-append, f-length, xy-length) (omega arith)) s2 e3 in
+        let s4 = onto out l3 l4 (f ++ f64sLe xy ++ zRun) mRun 0 _ (simp (length-append, f-length, xy-length, z-length) (omega arith)) s3 e4 in
         let e : f ++ f64sLe xy ++ zRun ++ mRun ≡ f ++ (f64sLe xy ++ (zRun ++ mRun)) = simp append-assoc in
-        s4 ∙ ap (sets out 0) (e ∙ sym body-is)
+        s4 ∙ ap (sets out 0) (e ∙ sym (body-is parts (h .xy-has)))
 
     -- n is the points as the code has them
-    pub body-stored : (n : ℕ) → n ≡ sum counts → (out l1 l2 l3 l4 : List ℕ) → l1 ≡ sets out 0 (frontBytes b counts n) → l2 ≡ sets l1 (40 + 4 * length counts) (f64sLe xy) → l3 ≡ sets l2 (40 + 4 * length counts + 16 * n) zRun → l4 ≡ sets l3 (40 + 4 * length counts + 16 * n + measureSize z n) mRun → l4 ≡ sets out 0 (partsBytes (partsOf z m b counts xy zs ms))
-    body-stored n e = rw e stored
+    pub body-stored : (i : ℕ) → i ≡ n → (out l1 l2 l3 l4 : List ℕ) → l1 ≡ sets out 0 (frontBytes parts b counts i) → l2 ≡ sets l1 start (f64sLe xy) → l3 ≡ sets l2 (start + 16 * i) zRun → l4 ≡ sets l3 (start + 16 * i + measureSize z i) mRun → l4 ≡ sets out 0 (shapeBytes (severalOf parts z m b counts xy zs ms))
+    body-stored i e = rw e stored

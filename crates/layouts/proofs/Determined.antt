@@ -7,14 +7,14 @@ use lib.Dec.{eqb}
 use lib.Ieee.{Float}
 use lib.IntN.{natAbs}
 use lib.Seq.{sets}
-use Rattle.format.specs.Encoding.{partsBytes}
+use Rattle.format.specs.Encoding.{shapeBytes}
 use Rattle.format.specs.Said.{Said, gives, refuses, unlessRefused}
 use Rattle.format.proofs.SaidLaws.{value, told-one}
 use Rattle.header.specs.declared.bbox.BBoxZ.{BBoxZ}
 use Rattle.layouts.specs.declared.LayoutAnswer.{LayoutAnswer}
 use Rattle.layouts.specs.declared.LayoutAnswer.the-variants.{Written, Tables, Long, Room}
 use Rattle.layouts.specs.Answers.{saidLayout, WritesBody}
-use Rattle.layouts.specs.Tables.{partsOf}
+use Rattle.layouts.specs.Tables.{severalOf}
 
 readLayout : Said ℕ → LayoutAnswer
 readLayout (gives n) = Written n
@@ -30,8 +30,8 @@ back-layout (Room n) = refl
 pub one-layout : (a b : LayoutAnswer) → saidLayout a ≡ saidLayout b → a ≡ b
 one-layout = told-one saidLayout readLayout back-layout
 
-module _ (z m : Bool) (bbox : BBoxZ) (counts : List ℕ) (xy zs ms : List Float) (out : List ℕ) where
-  pub one-result : (a b : LayoutAnswer) (s t : List ℕ) → WritesBody z m bbox counts xy zs ms out a s → WritesBody z m bbox counts xy zs ms out b t → (a ≡ b) × (s ≡ t)
+module _ (parts z m : Bool) (bbox : BBoxZ) (counts : List ℕ) (xy zs ms : List Float) (out : List ℕ) where
+  pub one-result : (a b : LayoutAnswer) (s t : List ℕ) → WritesBody parts z m bbox counts xy zs ms out a s → WritesBody parts z m bbox counts xy zs ms out b t → (a ≡ b) × (s ≡ t)
   one-result a b s t p q =
       let e = p .says ∙ sym (q .says) in
-      (one-layout a b e, p .out-is ∙ (ap (λ (said : Said ℕ). unlessRefused said out (sets out 0 (partsBytes (partsOf z m bbox counts xy zs ms)))) e ∙ sym (q .out-is)))
+      (one-layout a b e, p .out-is ∙ (ap (λ (said : Said ℕ). unlessRefused said out (sets out 0 (shapeBytes (severalOf parts z m bbox counts xy zs ms)))) e ∙ sym (q .out-is)))

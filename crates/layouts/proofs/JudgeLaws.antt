@@ -1,6 +1,6 @@
 -- Laws of the tests before the first byte: each refusal from the facts that the code has there, and what is known once all have passed.
-use mathlib.Core.Path.{_≡_, sym, _∙_}
-use mathlib.Core.Bool.{Bool, true, false, cond}
+use mathlib.Core.Path.{_≡_, refl, sym, ap, _∙_}
+use mathlib.Core.Bool.{Bool, true, false, cond, _&&_, _||_}
 use mathlib.Core.List.{List}
 use Prim.Native.Nat.{ℕ, _+_, _*_, _-_, _/_, _%_, _^_, _≤_, _<_}
 use native.Mathlib.Omega.{arith}
@@ -8,85 +8,129 @@ use lib.Dec.{eqb, ltb, leb}
 use lib.Ieee.{Float}
 use lib.ListN.{length}
 use borrow.Author.Tests.{eq-eqb, ne-eqb, lt-ltb, le-ltb, le-leb, lt-leb, eqb-true, eqb-false, ltb-true, leb-true}
-use Rattle.format.specs.Lengths.{parts, contentWords}
+use Rattle.format.specs.Lengths.{severalForm, contentWords}
 use Rattle.format.specs.Said.{gives, tables, long, roomBytes}
 use Rattle.format.specs.Shapes.{sum}
 use Rattle.format.proofs.OrderLaws.{passed, both-true}
-use Rattle.layouts.specs.Answers.{agree, countsHeld, bodySize, layoutTests, layoutOf}
-use Rattle.layouts.specs.Steps.{Placed}
-use Rattle.layouts.proofs.TableLaws.{agreed}
+use Rattle.layouts.specs.Answers.{agree, countsHeld, bodySize, lentSize, layoutTests, layoutOf}
+use Rattle.layouts.specs.Steps.{measureSize, frontSize, Placed}
+use Rattle.layouts.specs.Tables.{pointsLent}
+use Rattle.layouts.proofs.BodyLaws.{size-is}
+use Rattle.layouts.proofs.TableLaws.{agreed, no-counts}
 
-module _ (z m : Bool) (counts : List ℕ) (xy zs ms : List Float) (room : ℕ) where
-  pub odd : (length xy % 2 ≡ 0 → ⊥) → tables ≡ layoutOf z m counts xy zs ms room
+-- ---- the part counts, by the code's test of them: with parts they sum to the points, and a multipoint has none
+
+module _ (counts : List ℕ) (xy : List Float) where
+  abbrev pub counted : Bool → Bool
+  counted parts = cond parts (eqb (length xy / 2) (sum counts)) (eqb (length counts) 0)
+
+  -- the first two tests of `agree`
+  abbrev countsAgree : Bool → Bool
+  countsAgree parts = (parts || eqb (length counts) 0) && eqb (length xy) (2 * pointsLent parts counts xy)
+
+  no-and : (b : Bool) → b && false ≡ false
+  no-and true = refl
+  no-and false = refl
+
+  odd-counts : (parts : Bool) → (length xy % 2 ≡ 0 → ⊥) → countsAgree parts ≡ false
+  odd-counts parts h = rw (ne-eqb (length xy) (2 * pointsLent parts counts xy) (λ e. h (omega arith))) (no-and (parts || eqb (length counts) 0))
+
+  other-counts : (parts : Bool) → counted parts ≡ false → countsAgree parts ≡ false
+  other-counts true h = ne-eqb (length xy) (2 * sum counts) (λ e. eqb-false (length xy / 2) (sum counts) h (omega arith))
+  other-counts false h = rw h
+
+  no-others : (parts : Bool) → counted parts ≡ true → (parts || eqb (length counts) 0) ≡ true
+  no-others true h = refl
+  no-others false h = h
+
+  all-counted : (parts : Bool) → counted parts ≡ true → length xy / 2 ≡ pointsLent parts counts xy
+  all-counted true h = eqb-true (length xy / 2) (sum counts) h
+  all-counted false h = refl
+
+-- ---- the tests in order
+
+module _ (parts z m : Bool) (counts : List ℕ) (xy zs ms : List Float) (room : ℕ) where
+  pub odd : (length xy % 2 ≡ 0 → ⊥) → tables ≡ layoutOf parts z m counts xy zs ms room
   unfolding layoutOf
-  odd h = rw (ne-eqb (length xy) (2 * sum counts) (λ e. h (omega arith)))
+  odd h = rw (odd-counts counts xy parts h)
 
-  pub other-sum : eqb (length xy / 2) (sum counts) ≡ false → tables ≡ layoutOf z m counts xy zs ms room
+  pub other-sum : counted counts xy parts ≡ false → tables ≡ layoutOf parts z m counts xy zs ms room
   unfolding layoutOf
-  other-sum h = rw (ne-eqb (length xy) (2 * sum counts) (λ e. eqb-false (length xy / 2) (sum counts) h (omega arith)))
+  other-sum h = rw (other-counts counts xy parts h)
 
-  module _ (even : length xy % 2 ≡ 0) (sums : eqb (length xy / 2) (sum counts) ≡ true) where
-    points : length xy / 2 ≡ sum counts
-    points = eqb-true (length xy / 2) (sum counts) sums
+  module _ (even : length xy % 2 ≡ 0) (sums : counted counts xy parts ≡ true) where
+    abbrev n : ℕ
+    n = pointsLent parts counts xy
 
-    xy-has : eqb (length xy) (2 * sum counts) ≡ true
-    xy-has = eq-eqb (length xy) (2 * sum counts) (omega (arith, points))
+    points : length xy / 2 ≡ n
+    points = all-counted counts xy parts sums
+
+    has-counts : (parts || eqb (length counts) 0) ≡ true
+    has-counts = no-others counts xy parts sums
+
+    xy-has : eqb (length xy) (2 * n) ≡ true
+    xy-has = eq-eqb (length xy) (2 * n) (omega (arith, points))
 
     -- a table of values, as the code judges it
     module _ (flag : Bool) (values : List Float) where
-      as-said : {t : Bool} → eqb (length values) (cond flag (length xy / 2) 0) ≡ t → eqb (length values) (cond flag (sum counts) 0) ≡ t
+      as-said : {t : Bool} → eqb (length values) (cond flag (length xy / 2) 0) ≡ t → eqb (length values) (cond flag n 0) ≡ t
       as-said e = rw points at e
 
-    pub other-z : eqb (length zs) (cond z (length xy / 2) 0) ≡ false → tables ≡ layoutOf z m counts xy zs ms room
+    pub other-z : eqb (length zs) (cond z (length xy / 2) 0) ≡ false → tables ≡ layoutOf parts z m counts xy zs ms room
     unfolding layoutOf
-    other-z e = rw (xy-has, as-said z zs e)
+    other-z e = rw (has-counts, xy-has, as-said z zs e)
 
     module _ (has-z : eqb (length zs) (cond z (length xy / 2) 0) ≡ true) where
-      pub other-m : eqb (length ms) (cond m (length xy / 2) 0) ≡ false → tables ≡ layoutOf z m counts xy zs ms room
+      pub other-m : eqb (length ms) (cond m (length xy / 2) 0) ≡ false → tables ≡ layoutOf parts z m counts xy zs ms room
       unfolding layoutOf
-      other-m e = rw (xy-has, as-said z zs has-z, as-said m ms e)
+      other-m e = rw (has-counts, xy-has, as-said z zs has-z, as-said m ms e)
 
       module _ (has-m : eqb (length ms) (cond m (length xy / 2) 0) ≡ true) where
-        agrees : agree z m counts xy zs ms ≡ true
-        agrees = rw (xy-has, as-said z zs has-z, as-said m ms has-m)
+        agrees : agree parts z m counts xy zs ms ≡ true
+        agrees = rw (has-counts, xy-has, as-said z zs has-z, as-said m ms has-m)
 
-        pub long-parts : 2 ^ 31 ≤ length counts → long ≡ layoutOf z m counts xy zs ms room
+        pub long-parts : 2 ^ 31 ≤ length counts → long ≡ layoutOf parts z m counts xy zs ms room
         unfolding layoutOf
         long-parts h = rw (agrees, le-ltb (length counts) (2 ^ 31) h)
 
         module _ (parts-held : length counts < 2 ^ 31) where
-          pub long-points : 2 ^ 31 ≤ length xy / 2 → long ≡ layoutOf z m counts xy zs ms room
+          pub long-points : 2 ^ 31 ≤ length xy / 2 → long ≡ layoutOf parts z m counts xy zs ms room
           unfolding layoutOf
-          long-points h = rw (agrees, lt-ltb (length counts) (2 ^ 31) parts-held, le-ltb (sum counts) (2 ^ 31) (omega (arith, points)))
+          long-points h = rw (agrees, lt-ltb (length counts) (2 ^ 31) parts-held, le-ltb n (2 ^ 31) (omega (arith, points)))
 
-          -- the room decides
-          module _ (points-held : length xy / 2 < 2 ^ 31) (size : ℕ) (size-is : size ≡ bodySize z m (length counts) (length xy / 2)) where
-            left : layoutOf z m counts xy zs ms room ≡ cond (leb size room) (gives size) (roomBytes size)
+          -- the room decides, by the size as the code adds it up
+          module _ (points-held : length xy / 2 < 2 ^ 31) (size : ℕ) (added : size ≡ frontSize parts (length counts) + 16 * (length xy / 2) + measureSize z (length xy / 2) + measureSize m (length xy / 2)) where
+            size-lent : size ≡ lentSize parts z m counts xy
+            size-lent = added ∙ (size-is parts z m (length counts) (length xy / 2) (no-counts parts (length counts) has-counts) ∙ ap (bodySize parts z m (length counts)) points)
+
+            left : layoutOf parts z m counts xy zs ms room ≡ cond (leb size room) (gives size) (roomBytes size)
             unfolding layoutOf
-            left = rw (agrees, lt-ltb (length counts) (2 ^ 31) parts-held, lt-ltb (sum counts) (2 ^ 31) (omega (arith, points)), size-is, points)
+            left = rw (agrees, lt-ltb (length counts) (2 ^ 31) parts-held, lt-ltb n (2 ^ 31) (omega (arith, points)), ← size-lent)
 
-            pub no-room : room < size → roomBytes size ≡ layoutOf z m counts xy zs ms room
+            pub no-room : room < size → roomBytes size ≡ layoutOf parts z m counts xy zs ms room
             no-room h = sym (left ∙ rw (lt-leb size room h))
 
-            pub has-room : size ≤ room → gives size ≡ layoutOf z m counts xy zs ms room
+            pub has-room : size ≤ room → gives size ≡ layoutOf parts z m counts xy zs ms room
             has-room h = sym (left ∙ rw (le-leb size room h))
 
 -- where all pass, with the room that the content's words ask for
-pub all-pass : (z m : Bool) (counts : List ℕ) (xy zs ms : List Float) (room : ℕ) → agree z m counts xy zs ms ≡ true → countsHeld counts ≡ true → 2 * contentWords parts z m (length counts) (sum counts) ≤ 4 + room → layoutOf z m counts xy zs ms room ≡ gives (bodySize z m (length counts) (sum counts))
+pub all-pass : (parts z m : Bool) (counts : List ℕ) (xy zs ms : List Float) (room : ℕ) → agree parts z m counts xy zs ms ≡ true → countsHeld parts counts xy ≡ true → 2 * contentWords (severalForm parts) z m (length counts) (pointsLent parts counts xy) ≤ 4 + room → layoutOf parts z m counts xy zs ms room ≡ gives (lentSize parts z m counts xy)
 unfolding layoutOf bodySize
-all-pass z m counts xy zs ms room a c w =
-    let h : 2 * contentWords parts z m (length counts) (sum counts) - 4 ≤ room = omega arith in
+all-pass parts z m counts xy zs ms room a c w =
+    let h : 2 * contentWords (severalForm parts) z m (length counts) (pointsLent parts counts xy) - 4 ≤ room = omega arith in
     rw (a, c, le-leb _ _ h)
 
 -- ---- once all have passed
 
-pub placed : (z m : Bool) (counts : List ℕ) (xy zs ms : List Float) (room size : ℕ) → gives size ≡ layoutOf z m counts xy zs ms room → Placed z m counts xy zs ms room
+pub placed : (parts z m : Bool) (counts : List ℕ) (xy zs ms : List Float) (room size : ℕ) → gives size ≡ layoutOf parts z m counts xy zs ms room → Placed parts z m counts xy zs ms room
 unfolding layoutOf
-placed z m counts xy zs ms room size e =
-    let n = bodySize z m (length counts) (sum counts) in
-    let ok = passed n size (layoutTests z m counts xy zs ms room) tt (sym e) in
+placed parts z m counts xy zs ms room size e =
+    let n = pointsLent parts counts xy in
+    let ok = passed (lentSize parts z m counts xy) size (layoutTests parts z m counts xy zs ms room) tt (sym e) in
+    let a = agreed (parts || eqb (length counts) 0) z m n xy zs ms (ok 0) in
     record {
-      agreed = agreed true z m (sum counts) xy zs ms (ok 0) .1;
-      held = ltb-true (sum counts) (2 ^ 31) (both-true (ltb (length counts) (2 ^ 31)) (ltb (sum counts) (2 ^ 31)) (ok 1) .1);
-      fits = leb-true n room (ok 2);
+      counts-fit = a .0;
+      agreed = a .1;
+      held = ltb-true n (2 ^ 31) (both-true (ltb (length counts) (2 ^ 31)) (ltb n (2 ^ 31)) (ok 1) .1);
+      fits = leb-true (lentSize parts z m counts xy) room (ok 2);
     }

@@ -1,9 +1,9 @@
--- Laws of the shape that tables describe: where the counts sum to the points, its bytes are those of the tables, one after the other.
-use mathlib.Core.Path.{_≡_, refl, ap, _∙_}
-use mathlib.Core.Bool.{Bool, true, false, cond, _&&_}
+-- Laws of the shape that tables describe: where they agree, its bytes are those of the tables, one after the other, and it has their counts.
+use mathlib.Core.Path.{_≡_, refl, sym, ap, _∙_}
+use mathlib.Core.Bool.{Bool, true, false, cond, _&&_, _||_}
 use mathlib.Core.List.{List, [], _∷_, _++_, map, flatten}
 use mathlib.Core.Option.{some}
-use Prim.Native.Nat.{ℕ, suc, _+_, _*_, _/_, _%_, _≤_}
+use Prim.Native.Nat.{ℕ, suc, _+_, _*_, _/_, _%_, _^_, _≤_, _<_}
 use native.Mathlib.Omega.{arith}
 use lib.Dec.{eqb}
 use lib.Ieee.{Float}
@@ -12,17 +12,17 @@ use lib.Seq.{length-take-le}
 use borrow.Author.Tests.{eqb-true}
 use Rattle.format.specs.declared.kinds.Kind.{Kind}
 use Rattle.format.specs.Encoding.{doubles, pointBytes, startsFrom, shapeWords}
-use Rattle.format.specs.Lengths.{parts, formOf, contentWords}
+use Rattle.format.specs.Lengths.{formOf, severalForm, contentWords}
 use Rattle.format.specs.Numbers.{little, f64sLe}
-use Rattle.format.specs.Shapes.{Point, parted, there, Covers, OnlyIf, OfKind, partsIn, pointsIn, sum}
+use Rattle.format.specs.Shapes.{Point, there, Covers, OnlyIf, MeasuresOf, OfKind, partsIn, pointsIn, sum}
 use Rattle.format.specs.WellFormed.{coordinates}
-use Rattle.format.proofs.Equations.{startsFrom-nil, startsFrom-cons, parts-parted, points-parted, words-parted}
+use Rattle.format.proofs.Equations.{startsFrom-nil, startsFrom-cons, parts-parted, points-parted, words-parted, parts-multipoint, points-multipoint, words-multipoint}
 use Rattle.format.proofs.Laid.{points-doubles}
 use Rattle.format.proofs.NumberLaws.{length-little, doubles-bits}
 use Rattle.format.proofs.OrderLaws.{both-true}
 use Rattle.header.specs.declared.bbox.BBoxZ.{BBoxZ}
 use Rattle.layouts.specs.Steps.{startsBytes, Agreed}
-use Rattle.layouts.specs.Tables.{bits, pointsOf, splitBy, measureOf, boxOf, partsOf}
+use Rattle.layouts.specs.Tables.{bits, pointsOf, splitBy, measureOf, boxOf, partsOf, multipointOf, severalOf, pointsLent}
 
 -- ---- tables that agree
 
@@ -95,6 +95,17 @@ pub parts-are : (z m : Bool) (b : BBoxZ) (counts : List ℕ) (xy zs ms : List Fl
 unfolding partsOf
 parts-are z m b counts xy zs ms = refl
 
+pub multipoint-are : (z m : Bool) (b : BBoxZ) (xy zs ms : List Float)
+    → multipointOf z m b xy zs ms
+    ≡ record {
+      box = boxOf b;
+      points = pointsOf xy;
+      z = measureOf z (b .zmin) (b .zmax) zs;
+      m = measureOf m (b .mmin) (b .mmax) ms;
+    }
+unfolding multipointOf
+multipoint-are z m b xy zs ms = refl
+
 pub there-measure : (flag : Bool) (low high : Float) (vs : List Float) → there (measureOf flag low high vs) ≡ flag
 there-measure true low high vs = refl
 there-measure false low high vs = refl
@@ -104,20 +115,35 @@ all-points counts xy e =
     let n : sum counts ≡ length (pointsOf xy) = omega (arith, length-points xy) in
     rw (split-whole counts (pointsOf xy) n, n)
 
+-- a multipoint has no part counts
+pub no-counts : (parts : Bool) (p : ℕ) → (parts || eqb p 0) ≡ true → parts ≡ false → p ≡ 0
+no-counts true p h e = absurd (let z : _≡_ {A = ℕ} 0 1 = cc in omega arith)
+no-counts false p h e = eqb-true p 0 h
+
+-- and with parts the counts sum to the points
+pub sum-held : (parts : Bool) (counts : List ℕ) (xy : List Float) → pointsLent parts counts xy < 2 ^ 31 → parts ≡ true → sum counts < 2 ^ 31
+sum-held true counts xy h e = h
+sum-held false counts xy h e = absurd (let z : _≡_ {A = ℕ} 0 1 = cc in omega arith)
+
+-- its counts and its words
 module _ (z m : Bool) (b : BBoxZ) (counts : List ℕ) (xy zs ms : List Float) where
-  pub parts-in : partsIn (parted (partsOf z m b counts xy zs ms)) ≡ length counts
+  pub parts-in : (parts : Bool) → (parts || eqb (length counts) 0) ≡ true → partsIn (severalOf parts z m b counts xy zs ms) ≡ length counts
   unfolding partsOf
-  parts-in = rw (parts-parted, split-length counts (pointsOf xy))
+  parts-in true h = rw (parts-parted, split-length counts (pointsOf xy))
+  parts-in false h = parts-multipoint (multipointOf z m b xy zs ms) ∙ sym (no-counts false (length counts) h refl)
 
-  module _ (e : length xy ≡ 2 * sum counts) where
-    pub points-in : pointsIn (parted (partsOf z m b counts xy zs ms)) ≡ sum counts
-    unfolding partsOf
-    points-in = rw (points-parted, all-points counts xy e)
+  pub points-in : (parts : Bool) → length xy ≡ 2 * pointsLent parts counts xy → pointsIn (severalOf parts z m b counts xy zs ms) ≡ pointsLent parts counts xy
+  unfolding partsOf multipointOf
+  points-in true e = rw (points-parted, all-points counts xy e)
+  points-in false e = rw (points-multipoint, length-points xy)
 
-    pub parts-words : shapeWords (parted (partsOf z m b counts xy zs ms)) ≡ contentWords parts z m (length counts) (sum counts)
-    unfolding partsOf
-    parts-words =
-        rw (words-parted, there-measure z (b .zmin) (b .zmax) zs, there-measure m (b .mmin) (b .mmax) ms, split-length counts (pointsOf xy), all-points counts xy e)
+  pub words-in : (parts : Bool) → (parts || eqb (length counts) 0) ≡ true → length xy ≡ 2 * pointsLent parts counts xy
+      → shapeWords (severalOf parts z m b counts xy zs ms) ≡ contentWords (severalForm parts) z m (length counts) (pointsLent parts counts xy)
+  unfolding partsOf multipointOf
+  words-in true h e =
+      rw (words-parted, there-measure z (b .zmin) (b .zmax) zs, there-measure m (b .mmin) (b .mmax) ms, split-length counts (pointsOf xy), all-points counts xy e)
+  words-in false h e =
+      rw (words-multipoint, there-measure z (b .zmin) (b .zmax) zs, there-measure m (b .mmin) (b .mmax) ms, length-points xy, no-counts false (length counts) h refl)
 
 -- it is of the kind whose flags the layout has
 
@@ -130,18 +156,23 @@ module _ (low high : Float) (vs : List Float) where
   covers n true e = length-map vs bits ∙ e
   covers n false e = tt
 
-pub parts-of-kind : (k : Kind) (b : BBoxZ) (counts : List ℕ) (xy zs ms : List Float) → formOf k ≡ some parts → Agreed (k .z) (k .m) (sum counts) xy zs ms
-    → OfKind k (parted (partsOf (k .z) (k .m) b counts xy zs ms))
-unfolding partsOf
-parts-of-kind k b counts xy zs ms f a =
-    let n = all-points counts xy (a .xy-has) in
-    record {
-      form = f;
-      has-z = there-measure (k .z) (b .zmin) (b .zmax) zs;
-      may-have-m = only-if (b .mmin) (b .mmax) ms (k .m);
-      covers-z = rw n (covers (b .zmin) (b .zmax) zs (sum counts) (k .z) (a .zs-has));
-      covers-m = rw n (covers (b .mmin) (b .mmax) ms (sum counts) (k .m) (a .ms-has));
-    }
+module _ (k : Kind) (b : BBoxZ) (counts : List ℕ) (xy zs ms : List Float) where
+  -- of n points, as the shape counts them
+  measures-of : (n l : ℕ) → l ≡ n → Agreed (k .z) (k .m) n xy zs ms → MeasuresOf k l (measureOf (k .z) (b .zmin) (b .zmax) zs) (measureOf (k .m) (b .mmin) (b .mmax) ms)
+  measures-of n l e a =
+      rw e
+      (record {
+        has-z = there-measure (k .z) (b .zmin) (b .zmax) zs;
+        may-have-m = only-if (b .mmin) (b .mmax) ms (k .m);
+        covers-z = covers (b .zmin) (b .zmax) zs n (k .z) (a .zs-has);
+        covers-m = covers (b .mmin) (b .mmax) ms n (k .m) (a .ms-has);
+      })
+
+  pub several-of-kind : (parts : Bool) → formOf k ≡ some (severalForm parts) → Agreed (k .z) (k .m) (pointsLent parts counts xy) xy zs ms
+      → OfKind k (severalOf parts (k .z) (k .m) b counts xy zs ms)
+  unfolding partsOf multipointOf
+  several-of-kind true f a = record { form = f; measures = measures-of (sum counts) _ (all-points counts xy (a .xy-has)) a }
+  several-of-kind false f a = record { form = f; measures = measures-of (length xy / 2) _ (length-points xy) a }
 
 pub length-starts : (counts : List ℕ) (a : ℕ) → length (startsBytes a counts) ≡ 4 * length counts
 unfolding startsBytes

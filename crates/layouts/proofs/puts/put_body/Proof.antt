@@ -4,25 +4,26 @@ use Prim.Native.Nat.{ℕ, _+_, _*_, _/_, _≤_}
 use native.Mathlib.Omega.{arith}
 use borrow.Author.Needs.{needs}
 use lib.ListN.{length}
-use Rattle.format.specs.Shapes.{sum}
-use Rattle.layouts.specs.Steps.{measureSize}
+use Rattle.layouts.specs.Steps.{measureSize, frontSize}
+use Rattle.layouts.specs.Tables.{pointsLent}
 use Rattle.layouts.proofs.BodyLaws.{size-is, same-size, body-stored}
+use Rattle.layouts.proofs.TableLaws.{no-counts, sum-held}
 use Rattle.layouts.proofs.puts.put_body.Statement.{statement}
 use Rattle.layouts.proofs.puts.put_body.Tie as tie
 
 abbrev e1 : tie.After-measure-size → tie.Start
-e1 c = c .before .before .before .before .before .before
+e1 c = c .before .before .before .before .before .before .before
 
 -- the points, as the code counts them
 abbrev n-of : tie.Start → ℕ
 n-of c = length (c .args .xy .now) / 2
 
-points : (c : tie.Start) → n-of c ≡ sum (c .args .counts .now)
+points : (c : tie.Start) → n-of c ≡ pointsLent (c .args .parts) (c .args .counts .now) (c .args .xy .now)
 points c = omega (arith, c .pre .agreed .xy-has)
 
 -- where the fields end
-room : (c : tie.Start) → 40 + 4 * length (c .args .counts .now) + 16 * n-of c + measureSize (c .args .z) (n-of c) + measureSize (c .args .m) (n-of c) ≤ length (c .args .out .now)
-room c = rw (points c, size-is) (c .pre .fits)
+room : (c : tie.Start) → frontSize (c .args .parts) (length (c .args .counts .now)) + 16 * n-of c + measureSize (c .args .z) (n-of c) + measureSize (c .args .m) (n-of c) ≤ length (c .args .out .now)
+room c = rw (size-is _ _ _ (length (c .args .counts .now)) (n-of c) (no-counts (c .args .parts) (length (c .args .counts .now)) (c .pre .counts-fit)), points c) (c .pre .fits)
 
 -- the values are as many as the layout has
 z-size : (c : tie.Start) → measureSize (c .args .z) (length (c .args .zs .now)) ≡ measureSize (c .args .z) (n-of c)
@@ -31,13 +32,16 @@ z-size c = same-size (c .args .z) _ _ (rw (points c) (c .pre .agreed .zs-has))
 m-size : (c : tie.Start) → measureSize (c .args .m) (length (c .args .ms .now)) ≡ measureSize (c .args .m) (n-of c)
 m-size c = same-size (c .args .m) _ _ (rw (points c) (c .pre .agreed .ms-has))
 
+add-z-at : tie.Need-add-z-at
+add-z-at c = omega (arith, room (c .before .before .before .before .before .before))
+
 add-m-at : tie.Need-add-m-at
 add-m-at c = omega (arith, room (e1 c))
 
 put-front-requires : tie.Need-put-front-requires
 put-front-requires c κs =
     let a = e1 (c .before) in
-    (omega (arith, room a), a .pre .held)
+    (omega (arith, room a), sum-held (a .args .parts) (a .args .counts .now) (a .args .xy .now) (a .pre .held))
 
 write-doubles-requires : tie.Need-write-doubles-requires
 write-doubles-requires c κs =
@@ -61,17 +65,19 @@ returns c =
     let r = q .before .before .before .before in
     let t = r .before .before .before .before in
     let u = t .before .before in
-    body-stored _ _ _ _ _ _ _ (e1 u .pre .agreed) _ (points (e1 u)) _ (t .put-front .last .0) (r .write-doubles .last .0) (q .put-measure .last .0) (p .put-measure2 .last .0)
+    body-stored _ _ _ _ _ _ _ _ (e1 u .pre .agreed) _ (points (e1 u)) _ (t .put-front .last .0) (r .write-doubles .last .0) (q .put-measure .last .0) (p .put-measure2 .last .0)
     (t .put-front .ensures)
-    (r .write-doubles .ensures)
-    (q .put-measure .ensures)
-    (rw (u .measure-size .ensures) at (p .put-measure2 .ensures))
+    (rw (u .before .front-size .ensures) at (r .write-doubles .ensures))
+    (rw (u .before .front-size .ensures) at (q .put-measure .ensures))
+    (rw (u .before .front-size .ensures, u .measure-size .ensures) at (p .put-measure2 .ensures))
 
 pub put-body-spec : {M : Type 1} → statement M
 put-body-spec =
     tie.close
     (tie.spec
-    (λ c. search needs) (λ c. search needs) (λ c. search needs) (λ c. search needs) (λ c κs. search needs)
+    (λ c κs. search needs) (λ c. search needs)
+    add-z-at
+    (λ c κs. search needs)
     add-m-at
     put-front-requires
     write-doubles-requires
