@@ -102,13 +102,6 @@ module _ (z : ℤ) (k : Kind) (e : kindAt z ≡ some k) where
   pub rings-parts : hasRings k ≡ true → formOf k ≡ some Lengths.parts
   rings-parts r = parts-of (formOf k) (rw r at (tests .1))
 
--- a kind with z has m
-pub z-has-m : (z : ℤ) (k : Kind) → kindAt z ≡ some k → k .z ≡ true → k .m ≡ true
-unfolding kinds
-z-has-m z k e h =
-    let t : not (k .z) || k .m ≡ true = of-table (λ r. not (r .z) || r .m) refl z k e in
-    rw h at t
-
 -- ---- what the lookup says of the row
 
 module _ (z : ℤ) (r : Found) (e : saidFound r ≡ kindOf z) where

@@ -187,6 +187,11 @@ form-several k onePoint t = ap₂ _||_ (t .parts-is) (t .many-is)
 form-several k manyPoints t = ap₂ _||_ (t .parts-is) (t .many-is)
 form-several k parts t = ap₂ _||_ (t .parts-is) (t .many-is)
 
+-- and then parts where its form has
+pub form-parts : (k : Kind) (flag : Bool) → Flags k (severalForm flag) → k .parts ≡ flag
+form-parts k true t = t .parts-is
+form-parts k false t = t .parts-is
+
 -- Null's kind is the table's, and taken
 pub null-row : kindAt (pos 0) ≡ some nullKind
 unfolding kinds rowOf

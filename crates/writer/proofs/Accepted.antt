@@ -13,24 +13,25 @@ use borrow.Author.Tests.{ltb-true, not-true, le-leb}
 use Rattle.format.specs.declared.kinds.Kind.{Kind}
 use Rattle.format.specs.Encoding.{Held}
 use Rattle.format.specs.Kinds.{kindAt, kindOr}
-use Rattle.format.specs.Lengths.{Form, nothing, onePoint, formOf, formIn, formAt}
+use Rattle.format.specs.Lengths.{Form, nothing, onePoint, manyPoints, severalForm, formOf, formIn, formAt}
 use Rattle.format.specs.Lengths
 use Rattle.format.specs.Said.{gives}
-use Rattle.format.specs.Shapes.{Shape, there, OfKind, ownKind, partsIn, pointsIn, sum}
+use Rattle.format.specs.Shapes.{Shape, there, OfKind, ownKind, partsIn, pointsIn}
 use Rattle.format.specs.Units.{sameInt}
 use Rattle.format.proofs.Equations.{parts-null, points-null, parts-point, points-point}
 use Rattle.format.proofs.KindLaws.{code-is}
-use Rattle.format.proofs.LengthLaws.{Flags, form-flags, own-kind}
+use Rattle.format.proofs.LengthLaws.{Flags, form-flags, form-parts, own-kind}
 use Rattle.format.proofs.OrderLaws.{both-true, passed}
 use Rattle.format.proofs.Records.{shape-least}
 use Rattle.format.proofs.UnitLaws.{same-is}
 use Rattle.layouts.specs.Answers.{countsHeld}
 use Rattle.layouts.specs.Steps.{Agreed}
-use Rattle.layouts.proofs.TableLaws.{agreed, parts-in, points-in, parts-of-kind}
+use Rattle.layouts.specs.Tables.{pointsLent}
+use Rattle.layouts.proofs.TableLaws.{agreed, parts-in, points-in, several-of-kind}
 use Rattle.writer.specs.declared.State.{State}
 use Rattle.writer.specs.Adding.{Lent, formOr, lentKind, lentForm, pointShape, lentShape, lentAgree, wordsThen, recordSize, addTests, kindThen, nextState, addingOf}
 use Rattle.writer.specs.State.{isZero, stateFine}
-use Rattle.writer.proofs.ShapeLaws.{lent-nothing, lent-point, lent-parts, there-value}
+use Rattle.writer.proofs.ShapeLaws.{lent-nothing, lent-point, lent-several, several-agree, there-value}
 use Rattle.writer.proofs.StateLaws.{Fine, fine}
 
 pub record Accepted (s : State) (t : Lent) : Type 0 where
@@ -40,7 +41,7 @@ pub record Accepted (s : State) (t : Lent) : Type 0 where
   pub not-first : isZero (t .code) && isZero (s .kind) ≡ false
   pub same-kind : isZero (s .kind) || isZero (t .code) || sameInt (s .kind) (t .code) ≡ true
   pub agree : lentAgree t ≡ true
-  pub counts-held : countsHeld (t .counts) ≡ true
+  pub counts-held : countsHeld (lentKind t .parts) (t .counts) (t .xy) ≡ true
   pub held : wordsThen s t < 2 ^ 31
 
 -- a kind that has a form is in the table
@@ -95,8 +96,30 @@ module _ (s : State) (t : Lent) (a : Accepted s t) where
   pub point-tables : lentForm t ≡ onePoint → Agreed (lentKind t .z) (lentKind t .m) 1 (t .xy) (t .zs) (t .ms)
   point-tables e = agreed (eqb (length (t .counts)) 0) (lentKind t .z) (lentKind t .m) 1 (t .xy) (t .zs) (t .ms) (rw e at (a .agree)) .1
 
-  pub parts-tables : lentForm t ≡ Lengths.parts → Agreed (lentKind t .z) (lentKind t .m) (sum (t .counts)) (t .xy) (t .zs) (t .ms)
-  parts-tables e = agreed true (lentKind t .z) (lentKind t .m) (sum (t .counts)) (t .xy) (t .zs) (t .ms) (rw e at (a .agree)) .1
+  -- of several points too; a multipoint has no part counts
+  pub several-tables : (parts : Bool) → lentForm t ≡ severalForm parts
+      → ((parts || eqb (length (t .counts)) 0) ≡ true) × Agreed (lentKind t .z) (lentKind t .m) (pointsLent parts (t .counts) (t .xy)) (t .xy) (t .zs) (t .ms)
+  several-tables parts e =
+      agreed (parts || eqb (length (t .counts)) 0) (lentKind t .z) (lentKind t .m) (pointsLent parts (t .counts) (t .xy)) (t .xy) (t .zs) (t .ms)
+      (sym (several-agree t parts e) ∙ a .agree)
+
+  flags : Flags (lentKind t) (lentForm t)
+  flags = form-flags (t .code) (lentKind t) (lentForm t) (a .kind) (a .form)
+
+  pub several-parts : (parts : Bool) → lentForm t ≡ severalForm parts → lentKind t .parts ≡ parts
+  several-parts parts e = form-parts (lentKind t) parts (subst (Flags (lentKind t)) e flags)
+
+  several-fits : (parts : Bool) → lentForm t ≡ severalForm parts → Fits (lentKind t) (lentShape t)
+  several-fits parts e =
+      let k = lentKind t in
+      let u = several-tables parts e in
+      let held = both-true _ _ (subst (λ (p : Bool). countsHeld p (t .counts) (t .xy) ≡ true) (several-parts parts e) (a .counts-held)) in
+      subst (Fits k) (sym (lent-several t parts e))
+      (record {
+        of-kind = several-of-kind k (t .box) (t .counts) (t .xy) (t .zs) (t .ms) parts (a .form ∙ ap some e) (u .1);
+        parts-held = subst Held (sym (parts-in (k .z) (k .m) (t .box) (t .counts) (t .xy) (t .zs) (t .ms) parts (u .0))) (ltb-true _ _ (held .0));
+        points-held = subst Held (sym (points-in (k .z) (k .m) (t .box) (t .counts) (t .xy) (t .zs) (t .ms) parts (u .1 .xy-has))) (ltb-true _ _ (held .1));
+      })
 
   pub shape-fits : Fits (lentKind t) (lentShape t)
   shape-fits = go (lentForm t) refl
@@ -105,21 +128,10 @@ module _ (s : State) (t : Lent) (a : Accepted s t) where
       go nothing e =
           rw (lent-nothing t e) (record { of-kind = rw e at (a .form); parts-held = rw parts-null (omega arith); points-held = rw points-null (omega arith) })
       go onePoint e = rw (lent-point t e) (point-fits (lentKind t) (t .xy) (t .zs) (t .ms) (rw e at (a .form)) (point-tables e))
-      go Lengths.parts e =
-          let k = lentKind t in
-          let u = parts-tables e in
-          let held = both-true _ _ (a .counts-held) in
-          rw (lent-parts t e)
-          (record {
-            of-kind = parts-of-kind k (t .box) (t .counts) (t .xy) (t .zs) (t .ms) (rw e at (a .form)) u;
-            parts-held = rw (parts-in (k .z) (k .m) (t .box) (t .counts) (t .xy) (t .zs) (t .ms)) (ltb-true _ _ (held .0));
-            points-held = rw (points-in (k .z) (k .m) (t .box) (t .counts) (t .xy) (t .zs) (t .ms) (u .xy-has)) (ltb-true _ _ (held .1));
-          })
+      go manyPoints e = several-fits false e
+      go Lengths.parts e = several-fits true e
 
   -- ---- the next state: its kind is the one that is added, or the one before a Null, and it is a writer state again
-
-  flags : Flags (lentKind t) (lentForm t)
-  flags = form-flags (t .code) (lentKind t) (lentForm t) (a .kind) (a .form)
 
   is-zero : isZero (t .code) ≡ eqb (lentKind t .code) 0
   is-zero = ap isZero code
@@ -130,9 +142,10 @@ module _ (s : State) (t : Lent) (a : Accepted s t) where
   kind-next P stays own = go (lentForm t) flags
     where
       go : (form : Form) → Flags (lentKind t) form → P (kindThen form s t)
-      go nothing f = stays (is-zero ∙ f .0)
-      go onePoint f = own (is-zero ∙ f .0)
-      go Lengths.parts f = own (is-zero ∙ f .0)
+      go nothing f = stays (is-zero ∙ f .null-is)
+      go onePoint f = own (is-zero ∙ f .null-is)
+      go manyPoints f = own (is-zero ∙ f .null-is)
+      go Lengths.parts f = own (is-zero ∙ f .null-is)
 
   next-taken : there (formAt (nextState s t .kind)) ≡ true
   next-taken = kind-next (λ (z : ℤ). there (formAt z) ≡ true) (λ e. a .fine .kind-taken) (λ e. rw (a .kind, a .form))

@@ -14,10 +14,10 @@ use Rattle.format.specs.declared.kinds.Kind.{Kind}
 use Rattle.format.specs.declared.units.Bytes.{Bytes}
 use Rattle.format.specs.declared.units.Words.{Words}
 use Rattle.format.specs.Encoding.{shapeWords, recordBytes, twoBig}
-use Rattle.format.specs.Lengths.{Form, nothing, onePoint, parts}
+use Rattle.format.specs.Lengths.{Form, nothing, onePoint, manyPoints, parts}
 use Rattle.format.specs.Said.{unlessRefused}
-use Rattle.format.proofs.KindLaws.{code-is, z-has-m}
-use Rattle.format.proofs.LengthLaws.{Flags, form-flags}
+use Rattle.format.proofs.KindLaws.{code-is}
+use Rattle.format.proofs.LengthLaws.{Flags, form-flags, form-several}
 use Rattle.writer.specs.declared.State.{State}
 use Rattle.writer.specs.declared.AddAnswer.{AddAnswer}
 use Rattle.writer.specs.declared.AddAnswer.the-variants.{Added, Size, Unknown, NotTaken, Mismatch, Tables, Long, Room}
@@ -49,19 +49,18 @@ module _ (s : State) (t : Lent) (out start entry : ℕ) (k : Kind) (w after : Wo
   shape : lentShape t ≡ shapeBy k (t .box) (t .counts) (t .xy) (t .zs) (t .ms)
   shape = shape-is t k (p .shape .of-code)
 
-  words : shapeWords (lentShape t) ≡ wordsBy k (t .counts)
+  words : shapeWords (lentShape t) ≡ wordsBy k (t .counts) (t .xy)
   words = ap shapeWords shape ∙ words-are k (t .box) (t .counts) (t .xy) (t .zs) (t .ms) (p .shape .agrees)
 
   pub starts : start ≤ out
   starts = omega (arith, p .shape .room)
 
-  pub whole : 8 + 2 * wordsBy k (t .counts) ≤ out - start
+  pub whole : 8 + 2 * wordsBy k (t .counts) (t .xy) ≤ out - start
   whole = omega (arith, p .shape .room, words)
 
   pub ready : (bytes : ℕ) → bytes ≡ out - start → Ready k (t .counts) (t .xy) (t .zs) (t .ms) bytes
   ready bytes e =
       record {
-        z-has-m = z-has-m (t .code) k (p .shape .of-code .kind-is);
         agrees = p .shape .agrees;
         counts-held = p .shape .counts-held;
         room = omega (arith, whole);
@@ -73,7 +72,7 @@ module _ (s : State) (t : Lent) (out start entry : ℕ) (k : Kind) (w after : Wo
   pub code : t .code ≡ pos (k .code)
   code = code-is (t .code) k (p .shape .of-code .kind-is)
 
-  pub content : w ≡ wordsOf (wordsBy k (t .counts))
+  pub content : w ≡ wordsOf (wordsBy k (t .counts) (t .xy))
   content = p .shape .words-are ∙ ap wordsOf words
 
   pub next-number : naturalOf (s .number) + 1 < 2 ^ 31
@@ -87,14 +86,16 @@ module _ (s : State) (t : Lent) (out start entry : ℕ) (k : Kind) (w after : Wo
 
   -- the kind and the box, by the form
   kind-then : (form : Form) → Flags k form → kindBy s (t .code) ≡ kindThen form s t
-  kind-then nothing f = rw (is-zero, f .0)
-  kind-then onePoint f = rw (is-zero, f .0)
-  kind-then parts f = rw (is-zero, f .0)
+  kind-then nothing f = rw (is-zero, f .null-is)
+  kind-then onePoint f = rw (is-zero, f .null-is)
+  kind-then manyPoints f = rw (is-zero, f .null-is)
+  kind-then parts f = rw (is-zero, f .null-is)
 
   box-then : (form : Form) → Flags k form → boxBy s (t .code) k (t .box) (t .xy) (t .zs) (t .ms) ≡ boxThen form s t
-  box-then nothing f = rw (is-zero, f .0)
-  box-then onePoint f = rw (is-zero, f .0, f .1, p .shape .of-code .kind-is)
-  box-then parts f = rw (is-zero, f .0, f .1, p .shape .of-code .kind-is)
+  box-then nothing f = rw (is-zero, f .null-is)
+  box-then onePoint f = rw (is-zero, f .null-is, form-several k onePoint f, p .shape .of-code .kind-is)
+  box-then manyPoints f = rw (is-zero, f .null-is, form-several k manyPoints f, p .shape .of-code .kind-is)
+  box-then parts f = rw (is-zero, f .null-is, form-several k parts f, p .shape .of-code .kind-is)
 
   pub next-is : nextBy (s .number) after (kindBy s (t .code)) (boxBy s (t .code) k (t .box) (t .xy) (t .zs) (t .ms)) ≡ nextState s t
   unfolding nextState

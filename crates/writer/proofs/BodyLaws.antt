@@ -1,4 +1,4 @@
--- Laws of a shape's body by its kind: a point's values, or what the layout's writer leaves.
+-- Laws of a shape's body by its kind: a point's values, or what the writer of several points leaves.
 use mathlib.Core.Path.{_≡_, refl, sym, ap, _∙_}
 use mathlib.Core.Bool.{Bool, true, false, cond}
 use mathlib.Core.List.{List, [], _∷_, _++_, append-nil}
@@ -13,23 +13,23 @@ use mir.Syntax.{w32}
 use mir.Val.{ofZ}
 use Rattle.format.specs.declared.kinds.Kind.{Kind}
 use Rattle.format.specs.declared.units.Words.{Words}
-use Rattle.format.specs.Encoding.{shapeBytes, shapeWords, valueBytes, partsBytes, twoBig, recordBytes}
-use Rattle.format.specs.Lengths.{onePoint, contentWords}
+use Rattle.format.specs.Encoding.{shapeBytes, shapeWords, valueBytes, twoBig, recordBytes}
+use Rattle.format.specs.Lengths.{onePoint, hasSeveral, contentWords}
 use Rattle.format.specs.Numbers.{little, f64sLe}
 use Rattle.format.specs.Said.{Said, gives, unlessRefused}
-use Rattle.format.specs.Shapes.{Shape, sum}
+use Rattle.format.specs.Shapes.{Shape}
 use Rattle.format.proofs.Equations as Equations
-use Rattle.format.proofs.Equations.{f64Le-is, f64sLe-nil, f64sLe-cons, words-are, fixed-point, each-point, pointBytes-is, shape-null, shape-point, shape-parted, content-bytes}
+use Rattle.format.proofs.Equations.{f64Le-is, f64sLe-nil, f64sLe-cons, words-are, fixed-point, each-point, pointBytes-is, shape-null, shape-point, content-bytes}
 use Rattle.format.proofs.LengthLaws.{some-words}
 use Rattle.header.specs.declared.bbox.BBoxZ.{BBoxZ}
 use Rattle.layouts.specs.declared.LayoutAnswer.{LayoutAnswer}
-use Rattle.layouts.specs.Answers.{bodySize, layoutOf, WritesBody}
+use Rattle.layouts.specs.Answers.{lentSize, layoutOf, WritesBody}
 use Rattle.layouts.specs.Steps.{Agreed}
-use Rattle.layouts.specs.Tables.{partsOf}
+use Rattle.layouts.specs.Tables.{severalOf}
 use Rattle.layouts.proofs.JudgeLaws.{all-pass}
 use Rattle.writer.specs.Adding.{valueOf, pointShape}
 use Rattle.writer.specs.Judging.{formBy, shapeBy, wordsBy, wordsOf, Ready, pointsBy}
-use Rattle.writer.proofs.ShapeLaws.{tables, empty}
+use Rattle.writer.proofs.ShapeLaws.{tables}
 
 -- ---- a point
 
@@ -52,11 +52,11 @@ given false = refl
 
 module _ (k : Kind) (b : BBoxZ) (counts : List ℕ) (xy zs ms : List Float) where
   module _ (bytes : ℕ) (r : Ready k counts xy zs ms bytes) where
-    all : Agreed (k .z) (k .m) (pointsBy k counts) xy zs ms
+    all : Agreed (k .z) (k .m) (pointsBy k counts xy) xy zs ms
     all = tables k counts xy zs ms (r .agrees)
 
     -- what the point's writer asks
-    pub point-room : k .parts ≡ false → eqb (k .code) 0 ≡ false → (length xy ≡ 2) × (16 + 8 * length zs + 8 * length ms ≤ bytes)
+    pub point-room : hasSeveral k ≡ false → eqb (k .code) 0 ≡ false → (length xy ≡ 2) × (16 + 8 * length zs + 8 * length ms ≤ bytes)
     point-room e f =
         let x : length xy ≡ 2 = rw (e, f) at (all .xy-has) in
         let z : length zs ≡ cond (k .z) 1 0 = rw (e, f) at (all .zs-has) in
@@ -65,38 +65,28 @@ module _ (k : Kind) (b : BBoxZ) (counts : List ℕ) (xy zs ms : List Float) wher
         let v : 2 * (10 + cond (k .z) 4 0 + cond (k .m) 4 0 + 2 * length counts + 0 * 1) ≤ 4 + bytes = rw (words-are, fixed-point, each-point) at w in
         (x, omega (arith, given (k .z), given (k .m)))
 
-    pub point-body : k .parts ≡ false → eqb (k .code) 0 ≡ false → f64sLe xy ++ (f64sLe zs ++ f64sLe ms) ≡ shapeBytes (shapeBy k b counts xy zs ms)
+    pub point-body : hasSeveral k ≡ false → eqb (k .code) 0 ≡ false → f64sLe xy ++ (f64sLe zs ++ f64sLe ms) ≡ shapeBytes (shapeBy k b counts xy zs ms)
     point-body e f = rw (e, f) (sym (point-bytes k xy zs ms (rw (e, f) at (all .xy-has)) (rw (e, f) at (all .zs-has)) (rw (e, f) at (all .ms-has))))
 
-    pub no-z : k .z ≡ false → zs ≡ []
-    no-z e = empty zs (rw e at (all .zs-has))
+  -- ---- Null, and several points
 
-    pub no-m : k .m ≡ false → ms ≡ []
-    no-m e = empty ms (rw e at (all .ms-has))
-
-  -- ---- Null, and parts
-
-  pub null-body : k .parts ≡ false → eqb (k .code) 0 ≡ true → shapeBytes (shapeBy k b counts xy zs ms) ≡ []
+  pub null-body : hasSeveral k ≡ false → eqb (k .code) 0 ≡ true → shapeBytes (shapeBy k b counts xy zs ms) ≡ []
   null-body e f = rw (e, f) shape-null
 
-  module _ (out : List ℕ) (r : Ready k counts xy zs ms (length out)) (e : k .parts ≡ true) where
-    gives-all : layoutOf (k .z) (k .m) counts xy zs ms (length out) ≡ gives (bodySize (k .z) (k .m) (length counts) (sum counts))
-    gives-all = all-pass (k .z) (k .m) counts xy zs ms (length out) (rw e at (r .agrees)) (r .counts-held) (rw e at (r .room))
+  module _ (out : List ℕ) (r : Ready k counts xy zs ms (length out)) (e : hasSeveral k ≡ true) where
+    gives-all : layoutOf (k .parts) (k .z) (k .m) counts xy zs ms (length out) ≡ gives (lentSize (k .parts) (k .z) (k .m) counts xy)
+    gives-all = all-pass (k .parts) (k .z) (k .m) counts xy zs ms (length out) (rw e at (r .agrees)) (r .counts-held) (rw e at (r .room))
 
-    pub parts-body : (answer : LayoutAnswer) (out′ : List ℕ) → WritesBody (k .z) (k .m) b counts xy zs ms out answer out′ → out′ ≡ sets out 0 (shapeBytes (shapeBy k b counts xy zs ms))
-    parts-body answer out′ h =
+    pub several-body : (answer : LayoutAnswer) (out′ : List ℕ) → WritesBody (k .parts) (k .z) (k .m) b counts xy zs ms out answer out′ → out′ ≡ sets out 0 (shapeBytes (shapeBy k b counts xy zs ms))
+    several-body answer out′ h =
         h .out-is
-        ∙ (ap (λ (s : Said ℕ). unlessRefused s out (sets out 0 (partsBytes (partsOf (k .z) (k .m) b counts xy zs ms)))) (h .says ∙ gives-all)
-        ∙ rw (e, shape-parted))
-
-    -- as the writer of a layout says it, of the flags and the tables that it was given
-    pub layout-body : (z m : Bool) (zs′ ms′ : List Float) → k .z ≡ z → k .m ≡ m → zs ≡ zs′ → ms ≡ ms′ → (answer : LayoutAnswer) (out′ : List ℕ) → WritesBody z m b counts xy zs′ ms′ out answer out′ → out′ ≡ sets out 0 (shapeBytes (shapeBy k b counts xy zs ms))
-    layout-body z m zs′ ms′ p q u v answer out′ h = parts-body answer out′ (rw (p, q, u, v) h)
+        ∙ (ap (λ (s : Said ℕ). unlessRefused s out (sets out 0 (shapeBytes (severalOf (k .parts) (k .z) (k .m) b counts xy zs ms)))) (h .says ∙ gives-all)
+        ∙ rw e)
 
 -- ---- the record
 
-pub words-least : (k : Kind) (counts : List ℕ) → 2 ≤ wordsBy k counts
-words-least k counts = some-words (formBy k) (k .z) (k .m) (length counts) (pointsBy k counts)
+pub words-least : (k : Kind) (counts : List ℕ) (xy : List Float) → 2 ≤ wordsBy k counts xy
+words-least k counts xy = some-words (formBy k) (k .z) (k .m) (length counts) (pointsBy k counts xy)
 
 pub record-is : (k : Kind) (s : Shape) (n w : ℕ) (content : Words) (code : ℤ) → content ≡ wordsOf w → shapeWords s ≡ w → code ≡ pos (k .code) → twoBig n (ofZ w32 (content .0)) ++ (little (ofZ w32 code) ++ shapeBytes s) ≡ recordBytes k n s
 record-is k s n w content code e f g = rw (e, g, Equations.record-is, content-bytes, f)

@@ -13,11 +13,11 @@ use borrow.Author.Tests.{eq-eqb, ne-eqb}
 use Rattle.format.specs.declared.kinds.Kind.{Kind}
 use Rattle.format.specs.declared.lengths.Formula.{Formula}
 use Rattle.format.specs.Kinds.{known, kindAt}
-use Rattle.format.specs.Lengths.{Form, nothing, onePoint, parts, formOf, formula, formAt}
+use Rattle.format.specs.Lengths.{Form, nothing, onePoint, manyPoints, parts, formOf, formula, formAt}
 use Rattle.format.specs.Shapes.{there}
 use Rattle.format.specs.Units.{sameInt}
 use Rattle.format.proofs.KindLaws.{code-is, known-there}
-use Rattle.format.proofs.LengthLaws.{Flags, form-flags}
+use Rattle.format.proofs.LengthLaws.{Flags, form-flags, form-several}
 use Rattle.writer.specs.declared.State.{State}
 use Rattle.writer.specs.declared.AddAnswer.the-variants.{Size, Unknown, NotTaken, Mismatch}
 use Rattle.writer.specs.declared.states.Looked.the-variants as LookedIs
@@ -42,9 +42,10 @@ looked-form k f none e = absurd (let z : _≡_ {A = ℕ} 0 1 = cc in omega arith
 looked-form k f (some form) e = (form, refl, cc)
 
 form-of : (k : Kind) (form : Form) → Flags k form → form ≡ formBy k
-form-of k nothing f = rw (f .1, f .0)
-form-of k onePoint f = rw (f .1, f .0)
-form-of k parts f = rw (f .1)
+form-of k nothing f = rw (form-several k nothing f, f .null-is)
+form-of k onePoint f = rw (form-several k onePoint f, f .null-is)
+form-of k manyPoints f = rw (form-several k manyPoints f, f .parts-is)
+form-of k parts f = rw (form-several k parts f, f .parts-is)
 
 module _ (code : ℤ) where
   none-known : lookUp code ≡ LookedIs.Unknown → known code ≡ false

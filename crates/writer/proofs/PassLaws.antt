@@ -15,6 +15,7 @@ use Rattle.format.specs.Encoding.{shapeWords}
 use Rattle.format.specs.Lengths.{formula, formulaWords}
 use Rattle.format.specs.Said.{gives, roomBytes}
 use Rattle.format.proofs.OrderLaws.{both-true}
+use Rattle.layouts.specs.Answers.{countsHeld}
 use Rattle.writer.specs.declared.State.{State}
 use Rattle.writer.specs.declared.AddAnswer.{AddAnswer}
 use Rattle.writer.specs.declared.AddAnswer.the-variants as AddIs
@@ -23,11 +24,11 @@ use Rattle.writer.specs.declared.judge.Judged.the-variants as JudgedIs
 use Rattle.writer.specs.declared.judge.TablesJudged.the-variants.{Agree, Disagree}
 use Rattle.writer.specs.declared.judge.LengthJudged.the-variants.{Held, Long}
 use Rattle.writer.specs.declared.judge.RoomJudged.the-variants.{Fits, Needs}
-use Rattle.writer.specs.Adding.{Lent, lentShape, lentAgree, wordsThen, heldThen, recordSize, shapeTests, addingOf}
+use Rattle.writer.specs.Adding.{Lent, lentKind, lentShape, lentAgree, wordsThen, heldThen, recordSize, shapeTests, addingOf}
 use Rattle.writer.specs.Judging.{wordsOf, bytesOf, Whole, wordsWith, recordBytesOf, OfCode, formBy, pointsBy, agreeBy, tablesJudged, lengthJudged, roomJudged, KindFine, KindRefused, Passed, Refused, JudgesShape, AllRefused, Judges}
 use Rattle.writer.specs.State.{stateFine}
 use Rattle.writer.proofs.LengthLaws.{record-bytes, whole-bytes}
-use Rattle.writer.proofs.ShapeLaws.{agree-is, shape-is, words-are, counts-held, formula-words}
+use Rattle.writer.proofs.ShapeLaws.{lent-kind, agree-is, shape-is, words-are, counts-held, formula-words}
 use Rattle.writer.proofs.StateLaws.{fine, words-natural}
 
 -- ---- an answer says how its test came out
@@ -61,10 +62,10 @@ module _ (s : State) (t : Lent) (k : Kind) (o : OfCode (t .code) k) (ok : stateF
 
   module _ (n : ℕ) (h : tablesJudged k (t .counts) (t .xy) (t .zs) (t .ms) ≡ Agree n) where
     yes : agreeBy k (t .counts) (t .xy) (t .zs) (t .ms) ≡ true
-    yes = agree-by (agreeBy k (t .counts) (t .xy) (t .zs) (t .ms)) (pointsBy k (t .counts)) n h .0
+    yes = agree-by (agreeBy k (t .counts) (t .xy) (t .zs) (t .ms)) (pointsBy k (t .counts) (t .xy)) n h .0
 
-    points : pointsBy k (t .counts) ≡ n
-    points = agree-by (agreeBy k (t .counts) (t .xy) (t .zs) (t .ms)) (pointsBy k (t .counts)) n h .1
+    points : pointsBy k (t .counts) (t .xy) ≡ n
+    points = agree-by (agreeBy k (t .counts) (t .xy) (t .zs) (t .ms)) (pointsBy k (t .counts) (t .xy)) n h .1
 
     agrees : lentAgree t ≡ true
     agrees = agree-is t k o ∙ yes
@@ -73,7 +74,7 @@ module _ (s : State) (t : Lent) (k : Kind) (o : OfCode (t .code) k) (ok : stateF
     shape-words =
         ap shapeWords (shape-is t k o)
         ∙ (words-are k (t .box) (t .counts) (t .xy) (t .zs) (t .ms) yes
-        ∙ (sym (formula-words k (t .counts))
+        ∙ (sym (formula-words k (t .counts) (t .xy))
         ∙ (λ i. formulaWords (sym fe i) (length (t .counts)) (points i))))
 
     abbrev formula-content : Words
@@ -82,12 +83,15 @@ module _ (s : State) (t : Lent) (k : Kind) (o : OfCode (t .code) k) (ok : stateF
     words-is : wordsThen s t ≡ wordsWith (s .words) formula-content
     words-is = λ i. sym (words-natural s (fine s ok)) i + (4 + shape-words i)
 
+    counts-lent : countsHeld (lentKind t .parts) (t .counts) (t .xy) ≡ countsHeld (k .parts) (t .counts) (t .xy)
+    counts-lent = ap (λ (i : Kind). countsHeld (i .parts) (t .counts) (t .xy)) (lent-kind t k o)
+
     test : Bool
     test = ltb (length (t .counts)) (2 ^ 31) && ltb n (2 ^ 31) && ltb (wordsWith (s .words) formula-content) (2 ^ 31)
 
     held-is : heldThen s t ≡ test
     unfolding test
-    held-is = rw (← counts-held k (t .box) (t .counts) (t .xy) (t .zs) (t .ms) yes, points, words-is)
+    held-is = rw (counts-lent, ← counts-held k (t .box) (t .counts) (t .xy) (t .zs) (t .ms) yes, points, words-is)
 
     pub refused-long : lengthJudged (s .words) f (length (t .counts)) n ≡ Long → Refused s t out start entry AddIs.Long
     unfolding test
@@ -133,7 +137,7 @@ module _ (s : State) (t : Lent) (k : Kind) (o : OfCode (t .code) k) (ok : stateF
             record {
               of-code = o;
               agrees = yes;
-              counts-held = g .0;
+              counts-held = sym counts-lent ∙ g .0;
               held = ltb-true _ _ (g .1);
               words-are = content-is;
               after-is = held-words .2 ∙ ap wordsOf (sym words-is);

@@ -1,29 +1,28 @@
 -- Laws of the shape that is lent, by the kind that was found: its form, its words, and the tests of it.
-use mathlib.Core.Path.{_≡_, refl, sym, ap, _∙_, subst}
+use mathlib.Core.Path.{_≡_, refl, sym, ap, _∙_}
 use mathlib.Core.Bool.{Bool, true, false, cond, _&&_, _||_}
 use mathlib.Core.List.{List, [], _∷_}
-use Prim.Native.Nat.{ℕ, _^_}
+use Prim.Native.Nat.{ℕ, _*_, _^_}
 use native.Mathlib.Omega.{arith}
-use lib.Dec.{T, eqb, ltb}
+use lib.Dec.{eqb, ltb}
 use lib.Ieee.{Float}
 use lib.ListN.{length}
-use borrow.Author.Tests.{eqb-true}
 use Rattle.format.specs.declared.kinds.Kind.{Kind}
 use Rattle.format.specs.Encoding.{shapeWords}
 use Rattle.format.specs.Kinds.{kindOr}
-use Rattle.format.specs.Lengths.{nothing, onePoint, parts, formula, contentWords, formulaWords}
-use Rattle.format.specs.Shapes.{null, parted, there}
+use Rattle.format.specs.Lengths.{nothing, onePoint, isMultipoint, hasSeveral, severalForm, formula, contentWords, formulaWords}
+use Rattle.format.specs.Shapes.{null, there}
 use Rattle.format.proofs.Equations as Equations
 use Rattle.format.proofs.Equations.{words-point}
 use Rattle.format.proofs.Laid.{nothing-words, null-words}
 use Rattle.format.proofs.LengthLaws.{null-kind}
 use Rattle.header.specs.declared.bbox.BBoxZ.{BBoxZ}
-use Rattle.layouts.specs.Answers.{countsHeld}
+use Rattle.layouts.specs.Answers.{agree, countsHeld}
 use Rattle.layouts.specs.Steps.{Agreed}
-use Rattle.layouts.specs.Tables.{partsOf}
-use Rattle.layouts.proofs.TableLaws.{parts-words, agreed}
+use Rattle.layouts.specs.Tables.{severalOf, pointsLent}
+use Rattle.layouts.proofs.TableLaws.{agreed, no-counts, words-in}
 use Rattle.writer.specs.Adding.{Lent, formOr, lentKind, lentForm, valueOf, pointShape, lentShape, lentAgree}
-use Rattle.writer.specs.Judging.{OfCode, formBy, pointsBy, agreeBy, shapeBy, wordsBy}
+use Rattle.writer.specs.Judging.{OfCode, formBy, single, pointsBy, agreeBy, shapeBy, wordsBy}
 
 -- ---- what is lent, by its form and by its kind
 
@@ -36,9 +35,20 @@ module _ (t : Lent) where
   unfolding lentShape
   lent-point e = rw e
 
-  pub lent-parts : lentForm t ≡ parts → lentShape t ≡ parted (partsOf (lentKind t .z) (lentKind t .m) (t .box) (t .counts) (t .xy) (t .zs) (t .ms))
+  -- several points, in parts or as a multipoint
+  pub lent-several : (parts : Bool) → lentForm t ≡ severalForm parts → lentShape t ≡ severalOf parts (lentKind t .z) (lentKind t .m) (t .box) (t .counts) (t .xy) (t .zs) (t .ms)
   unfolding lentShape
-  lent-parts e = rw e
+  lent-several true e = rw e
+  lent-several false e = rw e
+
+  pub several-agree : (parts : Bool) → lentForm t ≡ severalForm parts → lentAgree t ≡ agree parts (lentKind t .z) (lentKind t .m) (t .counts) (t .xy) (t .zs) (t .ms)
+  several-agree true e = rw e
+  several-agree false e = rw e
+
+-- a kind that has not several points has no parts
+not-parts : (p m : Bool) → p || m ≡ false → p ≡ false
+not-parts true m e = e
+not-parts false m e = refl
 
 module _ (t : Lent) (k : Kind) (o : OfCode (t .code) k) where
   pub lent-kind : lentKind t ≡ k
@@ -48,18 +58,18 @@ module _ (t : Lent) (k : Kind) (o : OfCode (t .code) k) where
   lent-form = ap formOr (o .form-is)
 
   pub agree-is : lentAgree t ≡ agreeBy k (t .counts) (t .xy) (t .zs) (t .ms)
-  agree-is = go (k .parts) (eqb (k .code) 0) refl refl
+  agree-is = go (hasSeveral k) (eqb (k .code) 0) refl refl
     where
-      go : (p z : Bool) → k .parts ≡ p → eqb (k .code) 0 ≡ z → lentAgree t ≡ agreeBy k (t .counts) (t .xy) (t .zs) (t .ms)
-      go true z e f = rw (o .form-is, e, o .kind-is)
-      go false true e f = rw (o .form-is, null-kind (t .code) k (o .kind-is) f)
-      go false false e f = rw (o .form-is, e, f, o .kind-is)
+      go : (s z : Bool) → hasSeveral k ≡ s → eqb (k .code) 0 ≡ z → lentAgree t ≡ agreeBy k (t .counts) (t .xy) (t .zs) (t .ms)
+      go true z e f = several-agree t (k .parts) (rw e at lent-form) ∙ rw (e, o .kind-is)
+      go false true e f = rw (o .form-is, e, f, null-kind (t .code) k (o .kind-is) f)
+      go false false e f = rw (o .form-is, e, f, o .kind-is, not-parts (k .parts) (isMultipoint k) e)
 
   pub shape-is : lentShape t ≡ shapeBy k (t .box) (t .counts) (t .xy) (t .zs) (t .ms)
-  shape-is = go (k .parts) (eqb (k .code) 0) refl refl
+  shape-is = go (hasSeveral k) (eqb (k .code) 0) refl refl
     where
-      go : (p z : Bool) → k .parts ≡ p → eqb (k .code) 0 ≡ z → lentShape t ≡ shapeBy k (t .box) (t .counts) (t .xy) (t .zs) (t .ms)
-      go true z e f = lent-parts t (rw e at lent-form) ∙ rw (e, o .kind-is)
+      go : (s z : Bool) → hasSeveral k ≡ s → eqb (k .code) 0 ≡ z → lentShape t ≡ shapeBy k (t .box) (t .counts) (t .xy) (t .zs) (t .ms)
+      go true z e f = lent-several t (k .parts) (rw e at lent-form) ∙ rw (e, o .kind-is)
       go false true e f = lent-nothing t (rw (e, f) at lent-form) ∙ rw (e, f)
       go false false e f = lent-point t (rw (e, f) at lent-form) ∙ rw (e, f, o .kind-is)
 
@@ -69,16 +79,23 @@ pub empty : {A : Type 0} (l : List A) → length l ≡ 0 → l ≡ []
 empty [] e = refl
 empty (x ∷ l) e = absurd (omega arith)
 
-none-by : (p : Bool) (counts : List ℕ) → p || eqb (length counts) 0 ≡ true → p ≡ false → counts ≡ []
-none-by true counts h e = absurd (subst T e tt)
-none-by false counts h e = empty counts (eqb-true (length counts) 0 h)
-
 module _ (k : Kind) (counts : List ℕ) (xy zs ms : List Float) (e : agreeBy k counts xy zs ms ≡ true) where
-  pub tables : Agreed (k .z) (k .m) (pointsBy k counts) xy zs ms
-  tables = agreed (k .parts || eqb (length counts) 0) (k .z) (k .m) (pointsBy k counts) xy zs ms e .1
+  both : ((k .parts || eqb (length counts) 0) ≡ true) × Agreed (k .z) (k .m) (pointsBy k counts xy) xy zs ms
+  both = agreed (k .parts || eqb (length counts) 0) (k .z) (k .m) (pointsBy k counts xy) xy zs ms e
 
-  no-parts : k .parts ≡ false → counts ≡ []
-  no-parts = none-by (k .parts) counts (agreed (k .parts || eqb (length counts) 0) (k .z) (k .m) (pointsBy k counts) xy zs ms e .0)
+  pub tables : Agreed (k .z) (k .m) (pointsBy k counts xy) xy zs ms
+  tables = both .1
+
+  no-parts : hasSeveral k ≡ false → counts ≡ []
+  no-parts h = empty counts (no-counts (k .parts) (length counts) (both .0) (not-parts (k .parts) (isMultipoint k) h))
+
+  -- whatever the kind, without parts the points are the pairs of xy
+  points-are : pointsBy k counts xy ≡ pointsLent (k .parts) counts xy
+  points-are = go (hasSeveral k) refl (tables .xy-has)
+    where
+      go : (s : Bool) → hasSeveral k ≡ s → length xy ≡ 2 * cond s (pointsLent (k .parts) counts xy) (single k) → cond s (pointsLent (k .parts) counts xy) (single k) ≡ pointsLent (k .parts) counts xy
+      go true h a = refl
+      go false h a = rw (not-parts (k .parts) (isMultipoint k) h) (omega arith)
 
 -- ---- the words of the shape
 
@@ -93,21 +110,16 @@ point-words k (x ∷ []) zs ms e f g = absurd (omega arith)
 point-words k (x ∷ y ∷ xy) zs ms e f g = rw (words-point, there-value (k .z) zs f, there-value (k .m) ms g)
 
 module _ (k : Kind) (b : BBoxZ) (counts : List ℕ) (xy zs ms : List Float) (e : agreeBy k counts xy zs ms ≡ true) where
-  pub words-are : shapeWords (shapeBy k b counts xy zs ms) ≡ wordsBy k counts
-  words-are = go (k .parts) (eqb (k .code) 0) refl refl (tables k counts xy zs ms e)
+  pub words-are : shapeWords (shapeBy k b counts xy zs ms) ≡ wordsBy k counts xy
+  words-are = go (hasSeveral k) (eqb (k .code) 0) refl refl (tables k counts xy zs ms e)
     where
-      go : (p z : Bool) → k .parts ≡ p → eqb (k .code) 0 ≡ z → Agreed (k .z) (k .m) (pointsBy k counts) xy zs ms → shapeWords (shapeBy k b counts xy zs ms) ≡ wordsBy k counts
-      go true z q r a = rw q (parts-words (k .z) (k .m) b counts xy zs ms (rw q at (a .xy-has)))
+      go : (s z : Bool) → hasSeveral k ≡ s → eqb (k .code) 0 ≡ z → Agreed (k .z) (k .m) (pointsBy k counts xy) xy zs ms → shapeWords (shapeBy k b counts xy zs ms) ≡ wordsBy k counts xy
+      go true z q r a = rw q (words-in (k .z) (k .m) b counts xy zs ms (k .parts) (both k counts xy zs ms e .0) (rw q at (a .xy-has)))
       go false true q r a = rw (q, r, no-parts k counts xy zs ms e q) (null-words ∙ sym (nothing-words (k .z) (k .m)))
       go false false q r a = rw (q, r, no-parts k counts xy zs ms e q) (point-words k xy zs ms (rw (q, r) at (a .xy-has)) (rw (q, r) at (a .zs-has)) (rw (q, r) at (a .ms-has)))
 
-  pub counts-held : ltb (length counts) (2 ^ 31) && ltb (pointsBy k counts) (2 ^ 31) ≡ countsHeld counts
-  counts-held = go (k .parts) (eqb (k .code) 0) refl refl
-    where
-      go : (p z : Bool) → k .parts ≡ p → eqb (k .code) 0 ≡ z → ltb (length counts) (2 ^ 31) && ltb (pointsBy k counts) (2 ^ 31) ≡ countsHeld counts
-      go true z q r = rw q
-      go false true q r = rw (q, r, no-parts k counts xy zs ms e q)
-      go false false q r = rw (q, r, no-parts k counts xy zs ms e q)
+  pub counts-held : ltb (length counts) (2 ^ 31) && ltb (pointsBy k counts xy) (2 ^ 31) ≡ countsHeld (k .parts) counts xy
+  counts-held = ap (λ (n : ℕ). ltb (length counts) (2 ^ 31) && ltb n (2 ^ 31)) (points-are k counts xy zs ms e)
 
-pub formula-words : (k : Kind) (counts : List ℕ) → formulaWords (formula (formBy k) (k .z) (k .m)) (length counts) (pointsBy k counts) ≡ wordsBy k counts
-formula-words k counts = sym (Equations.words-are (formBy k) (k .z) (k .m) (length counts) (pointsBy k counts))
+pub formula-words : (k : Kind) (counts : List ℕ) (xy : List Float) → formulaWords (formula (formBy k) (k .z) (k .m)) (length counts) (pointsBy k counts xy) ≡ wordsBy k counts xy
+formula-words k counts xy = sym (Equations.words-are (formBy k) (k .z) (k .m) (length counts) (pointsBy k counts xy))

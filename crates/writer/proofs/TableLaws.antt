@@ -2,7 +2,7 @@
 use mathlib.Core.Path.{_≡_, refl, sym, ap, _∙_}
 use mathlib.Core.Bool.{Bool, true, false, cond, _&&_, _||_}
 use mathlib.Core.List.{List}
-use Prim.Native.Nat.{ℕ, _+_, _*_, _≤_, min}
+use Prim.Native.Nat.{ℕ, _+_, _*_, _/_, _≤_, min}
 use native.Mathlib.Nat.{min-eq-left, min-eq-right, min-le-right}
 use native.Mathlib.Omega.{arith}
 use lib.Dec.{eqb, leb}
@@ -10,6 +10,7 @@ use lib.Ieee.{Float}
 use lib.ListN.{length}
 use borrow.Author.Tests.{leb-true, leb-false, eq-eqb, ne-eqb}
 use Rattle.format.specs.declared.kinds.Kind.{Kind}
+use Rattle.format.specs.Lengths.{isMultipoint, hasSeveral}
 use Rattle.format.specs.Shapes.{sum}
 use Rattle.writer.specs.declared.judge.TablesJudged.the-variants.{Agree, Disagree}
 use Rattle.writer.specs.Judging.{single, pointsBy, pointsWithin, tablesJudged}
@@ -39,35 +40,50 @@ module _ (s l o most n : ℕ) where
   not-points true h k = ne-eqb most (2 * s) (no-sum h k)
   not-points false h k = no-one (eqb l 0) h k
 
-most-by : (p b z : Bool) (s most : ℕ) → cond p (min s (most + 1)) (cond b (cond z 0 1) (most + 1)) ≤ most + 1
-most-by true b z s most = min-le-right s (most + 1)
-most-by false true true s most = omega arith
-most-by false true false s most = omega arith
-most-by false false z s most = omega arith
+most-by : (p b m z : Bool) (s most : ℕ) → cond p (min s (most + 1)) (cond b (cond m (most / 2) (cond z 0 1)) (most + 1)) ≤ most + 1
+most-by true b m z s most = min-le-right s (most + 1)
+most-by false true true z s most = omega arith
+most-by false true false true s most = omega arith
+most-by false true false false s most = omega arith
+most-by false false m z s most = omega arith
 
 pub points-most : (k : Kind) (counts : List ℕ) (most : ℕ) → pointsWithin k counts most ≤ most + 1
-points-most k counts most = most-by (k .parts) (eqb (length counts) 0) (eqb (k .code) 0) (sum counts) most
+points-most k counts most = most-by (k .parts) (eqb (length counts) 0) (isMultipoint k) (eqb (k .code) 0) (sum counts) most
+
+-- a kind without parts may be a multipoint
+pub alone : (k : Kind) (r : Bool) → r ≡ hasSeveral k → k .parts ≡ false → isMultipoint k ≡ r
+alone k r e f = sym (e ∙ ap (λ (p : Bool). p || isMultipoint k) f)
+
+by-several : (p m : Bool) (s h o : ℕ) → cond p s (cond m h o) ≡ cond (p || m) (cond p s h) o
+by-several true m s h o = refl
+by-several false m s h o = refl
 
 -- the answers, by the number of points that the code has
 module _ (k : Kind) (counts : List ℕ) (xy zs ms : List Float) (n : ℕ) (e : n ≡ pointsWithin k counts (length xy)) where
+  abbrev one : ℕ
+  one = cond (isMultipoint k) (length xy / 2) (single k)
+
+  points-by : cond (k .parts) (sum counts) one ≡ pointsBy k counts xy
+  points-by = by-several (k .parts) (isMultipoint k) (sum counts) (length xy / 2) (single k)
+
   pub no-points : (2 * n ≡ length xy → ⊥) → Disagree ≡ tablesJudged k counts xy zs ms
-  no-points h = rw (not-points (sum counts) (length counts) (single k) (length xy) n (k .parts) e h)
+  no-points h = rw (← points-by, not-points (sum counts) (length counts) one (length xy) n (k .parts) e h)
 
   module _ (h : 2 * n ≡ length xy) where
-    are : (k .parts || eqb (length counts) 0 ≡ true) × (n ≡ pointsBy k counts)
-    are = points-are (sum counts) (length counts) (single k) (length xy) n (k .parts) e h
+    are : (k .parts || eqb (length counts) 0 ≡ true) × (n ≡ pointsBy k counts xy)
+    are = let p = points-are (sum counts) (length counts) one (length xy) n (k .parts) e h in (p .0, p .1 ∙ points-by)
 
-    has-xy : eqb (length xy) (2 * pointsBy k counts) ≡ true
+    has-xy : eqb (length xy) (2 * pointsBy k counts xy) ≡ true
     has-xy = eq-eqb _ _ (sym h ∙ ap (λ (m : ℕ). 2 * m) (are .1))
 
     -- a table of values has as many as the code expects
-    expected : (flag : Bool) (w : ℕ) → w ≡ cond flag n 0 → w ≡ cond flag (pointsBy k counts) 0
+    expected : (flag : Bool) (w : ℕ) → w ≡ cond flag n 0 → w ≡ cond flag (pointsBy k counts xy) 0
     expected flag w i = i ∙ ap (λ (m : ℕ). cond flag m 0) (are .1)
 
-    values : (flag : Bool) (vs : List Float) (w : ℕ) → w ≡ cond flag n 0 → length vs ≡ w → eqb (length vs) (cond flag (pointsBy k counts) 0) ≡ true
+    values : (flag : Bool) (vs : List Float) (w : ℕ) → w ≡ cond flag n 0 → length vs ≡ w → eqb (length vs) (cond flag (pointsBy k counts xy) 0) ≡ true
     values flag vs w i j = eq-eqb _ _ (j ∙ expected flag w i)
 
-    no-values : (flag : Bool) (vs : List Float) (w : ℕ) → w ≡ cond flag n 0 → (length vs ≡ w → ⊥) → eqb (length vs) (cond flag (pointsBy k counts) 0) ≡ false
+    no-values : (flag : Bool) (vs : List Float) (w : ℕ) → w ≡ cond flag n 0 → (length vs ≡ w → ⊥) → eqb (length vs) (cond flag (pointsBy k counts xy) 0) ≡ false
     no-values flag vs w i j = ne-eqb _ _ (λ q. j (q ∙ sym (expected flag w i)))
 
     module _ (w : ℕ) (i : w ≡ cond (k .z) n 0) where

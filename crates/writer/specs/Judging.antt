@@ -16,14 +16,14 @@ use Rattle.format.specs.declared.units.Words.{Words}
 use Rattle.format.specs.declared.units.Bytes.{Bytes}
 use Rattle.format.specs.Kinds.{kindAt}
 use Rattle.format.specs.Encoding.{shapeWords}
-use Rattle.format.specs.Lengths.{Form, nothing, onePoint, manyPoints, parts, isMultipoint, hasSeveral, formOf, formula, contentWords, formAt, formulaWords}
+use Rattle.format.specs.Lengths.{Form, nothing, onePoint, isMultipoint, hasSeveral, severalForm, formOf, formula, contentWords, formAt, formulaWords}
 use Rattle.format.specs.Order.{first}
 use Rattle.format.specs.Said.{Said, gives}
 use Rattle.format.specs.Shapes.{Shape, null, sum}
 use Rattle.format.specs.Units.{inBytes}
 use Rattle.header.specs.declared.bbox.BBoxZ.{BBoxZ}
 use Rattle.layouts.specs.Answers.{countsHeld}
-use Rattle.layouts.specs.Tables.{severalOf}
+use Rattle.layouts.specs.Tables.{severalOf, pointsLent}
 use Rattle.writer.specs.declared.State.{State}
 use Rattle.writer.specs.declared.AddAnswer.{AddAnswer}
 use Rattle.writer.specs.declared.AddAnswer.the-variants as AddIs
@@ -88,28 +88,29 @@ abbrev pub countsFine : ℕ → ℕ → Bool → Bool
 countsFine words number first =
     leb 50 words && (leb 1 number && (leb (50 + 6 * (number - 1)) words && (not first || (eqb words 50 && eqb number 1))))
 
--- ---- a taken kind has parts, nothing, any number of points or one; by it the shape, its points and its words
+-- ---- a taken kind has several points, nothing or one point; by it the shape, its points and its words
 
 abbrev pub formBy : Kind → Form
-formBy k = cond (k .parts) parts (cond (eqb (k .code) 0) nothing (cond (isMultipoint k) manyPoints onePoint))
+formBy k = cond (hasSeveral k) (severalForm (k .parts)) (cond (eqb (k .code) 0) nothing onePoint)
 
--- the points of a shape without parts, for so many doubles of xy
-abbrev pub pointsAlone : Kind → ℕ → ℕ
-pointsAlone k xy = cond (eqb (k .code) 0) 0 (cond (isMultipoint k) (xy / 2) 1)
+-- the points of a shape that has not several
+abbrev pub single : Kind → ℕ
+single k = cond (eqb (k .code) 0) 0 1
 
-abbrev pub pointsBy : Kind → List ℕ → ℕ → ℕ
-pointsBy k counts xy = cond (k .parts) (sum counts) (pointsAlone k xy)
+abbrev pub pointsBy : Kind → List ℕ → List Float → ℕ
+pointsBy k counts xy = cond (hasSeveral k) (pointsLent (k .parts) counts xy) (single k)
 
--- the same; more than xy has doubles, where the counts sum to more or are no such shape's
+-- the same, for so many doubles of xy; more than those, where the counts sum to more or are no such shape's
 abbrev pub pointsWithin : Kind → List ℕ → ℕ → ℕ
-pointsWithin k counts xy = cond (k .parts) (min (sum counts) (xy + 1)) (cond (eqb (length counts) 0) (pointsAlone k xy) (xy + 1))
+pointsWithin k counts xy =
+    cond (k .parts) (min (sum counts) (xy + 1)) (cond (eqb (length counts) 0) (cond (isMultipoint k) (xy / 2) (single k)) (xy + 1))
 
 abbrev pub agreeBy : Kind → List ℕ → List Float → List Float → List Float → Bool
 agreeBy k counts xy zs ms =
     (k .parts || eqb (length counts) 0)
-    && eqb (length xy) (2 * pointsBy k counts (length xy))
-    && eqb (length zs) (cond (k .z) (pointsBy k counts (length xy)) 0)
-    && eqb (length ms) (cond (k .m) (pointsBy k counts (length xy)) 0)
+    && eqb (length xy) (2 * pointsBy k counts xy)
+    && eqb (length zs) (cond (k .z) (pointsBy k counts xy) 0)
+    && eqb (length ms) (cond (k .m) (pointsBy k counts xy) 0)
 
 abbrev pub shapeBy : Kind → BBoxZ → List ℕ → List Float → List Float → List Float → Shape
 shapeBy k b counts xy zs ms =
@@ -117,7 +118,7 @@ shapeBy k b counts xy zs ms =
     (cond (eqb (k .code) 0) null (pointShape k xy zs ms))
 
 abbrev pub wordsBy : Kind → List ℕ → List Float → ℕ
-wordsBy k counts xy = contentWords (formBy k) (k .z) (k .m) (length counts) (pointsBy k counts (length xy))
+wordsBy k counts xy = contentWords (formBy k) (k .z) (k .m) (length counts) (pointsBy k counts xy)
 
 -- ---- the judges
 
@@ -151,7 +152,7 @@ JudgesKind s code (KindIs.Fine k f) = KindFine s code k f
 JudgesKind s code (KindIs.Refused a) = KindRefused s code a
 
 abbrev pub tablesJudged : Kind → List ℕ → List Float → List Float → List Float → TablesJudged
-tablesJudged k counts xy zs ms = cond (agreeBy k counts xy zs ms) (Agree (pointsBy k counts (length xy))) Disagree
+tablesJudged k counts xy zs ms = cond (agreeBy k counts xy zs ms) (Agree (pointsBy k counts xy)) Disagree
 
 abbrev pub lengthJudged : Words → Formula → ℕ → ℕ → LengthJudged
 lengthJudged words f p n =

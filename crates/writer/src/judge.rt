@@ -95,7 +95,7 @@ fn summed(counts: &[u32], most: usize) -> usize
     total
 }
 
-// The points of the shape, for so many doubles of xy: without parts a Null has none, a multipoint one for each pair and a point kind one. More than
+// The points of the shape, for so many doubles of xy: without parts a multipoint has one for each pair, a Null none and a point kind one. More than
 // there are doubles, where the counts are no such shape's.
 fn points(k: Kind, counts: &[u32], xy: usize) -> usize
     requires { ⌜ xy < 2 ^ 62 ⌝ }
@@ -107,14 +107,10 @@ fn points(k: Kind, counts: &[u32], xy: usize) -> usize
     if counts.len() != 0 {
         return xy + 1;
     }
-    if k.code == 0 {
-        return 0;
-    }
     if format::lengths::has_several(k) {
-        xy / 2
-    } else {
-        1
+        return xy / 2;
     }
+    if k.code == 0 { 0 } else { 1 }
 }
 
 // The number where the flag is set, else 0.

@@ -1,23 +1,26 @@
--- `record::own_box` meets its contract, by whether the kind has parts.
-use mathlib.Core.Path.{ap, _∙_}
+-- `record::own_box` meets its contract, by whether the kind has several points.
+use mathlib.Core.Path.{sym, ap, _∙_}
 use borrow.Author.Needs.{needs}
 use Rattle.writer.specs.Boxes.{flat}
 use Rattle.writer.proofs.record.own_box.Statement.{statement}
 use Rattle.writer.proofs.record.own_box.Tie as tie
 
 returns : tie.Need-returns
-returns c = rw (c .before .if1 .taken) (c .flat-box .ensures)
+returns c =
+    let s = c .before in
+    rw (sym (s .before .has-several .ensures) ∙ s .if1 .taken) (c .flat-box .ensures)
 
 returns-2 : tie.Need-returns-2
 returns-2 c =
     let p = c .before in
-    rw (p .before .if1 .left) (c .flat-box2 .ensures ∙ ap (flat (p .before .before .before .before .before .args .k)) (p .point-box .ensures))
+    let s = p .before in
+    rw (sym (s .before .has-several .ensures) ∙ s .if1 .left) (c .flat-box2 .ensures ∙ ap (flat (s .before .before .before .before .before .args .k)) (p .point-box .ensures))
 
 pub own-box-spec : {M : Type 1} → statement M
 own-box-spec =
     tie.close
     (tie.spec
-    (λ c κs. search needs)
+    (λ c κs. search needs) (λ c κs. search needs)
     returns
     (λ c κs. search needs) (λ c κs. search needs)
     returns-2)
