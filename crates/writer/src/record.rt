@@ -97,7 +97,8 @@ pub(crate) fn put_record(
 fn own_box(k: Kind, bbox: BBoxZ, xy: &[f64], zs: &[f64], ms: &[f64]) -> BBoxZ
     ensures { λ r. ⌜ r ≡ ownBy k bbox (now (xy .entry)) (now (zs .entry)) (now (ms .entry)) ⌝ }
 {
-    if format::lengths::has_several(k) {
+    let several = format::lengths::has_several(k);
+    if several {
         return crate::boxes::flat_box(k, bbox);
     }
     crate::boxes::flat_box(k, crate::boxes::point_box(xy, zs, ms))
