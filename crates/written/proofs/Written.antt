@@ -1,58 +1,67 @@
--- The theorem, by the form of the kind: nothing, one point, or parts.
+-- The theorem, by the form of the kind: nothing, one point, a multipoint, or parts.
 use mathlib.Core.Path.{_≡_, refl, sym, ap, _∙_}
 use mathlib.Core.Bool.{Bool, true, false, cond}
-use mathlib.Core.List.{List, map, flatten}
+use mathlib.Core.List.{List, [], map, flatten}
 use mathlib.Core.Option.{Option}
-use Prim.Native.Nat.{ℕ, _≤_}
+use Prim.Native.Nat.{ℕ, _*_, _≤_}
 use native.Mathlib.Omega.{arith}
+use lib.Ieee.{Float}
 use lib.IntN.{natAbs}
 use lib.ListN.{length, drop}
 use lib.Seq.{drop-at}
 use Rattle.format.specs.Encoding.{twoBig, content, shapeWords}
 use Rattle.format.specs.Kinds.{kindAt}
-use Rattle.format.specs.Lengths.{Form, nothing, onePoint}
+use Rattle.format.specs.Lengths.{Form, nothing, onePoint, manyPoints, several, severalForm}
 use Rattle.format.specs.Lengths
 use Rattle.format.specs.Said.{gives}
-use Rattle.format.specs.Shapes.{Point, Measure, Parts, Shape, point, parted, there, sum}
+use Rattle.format.specs.Shapes.{Point, Measure, Multipoint, Parts, Shape, point, multipoint, parted, there}
 use Rattle.format.specs.WellFormed
 use Rattle.format.proofs.Equations.{record-is}
 use Rattle.format.proofs.NumberLaws.{length-two}
 use Rattle.rules.specs.Meaning.{TakenKind}
 use Rattle.multipart.specs.Body.{raised}
 use Rattle.layouts.specs.Steps.{Agreed}
-use Rattle.layouts.specs.Tables.{bits, pointsOf, splitBy, measureOf, boxOf}
-use Rattle.layouts.proofs.TableLaws.{length-points, points-are, split-length, split-whole, split-counts, parts-are, there-measure}
+use Rattle.layouts.specs.Tables.{bits, pointsOf, splitBy, measureOf, boxOf, pointsLent}
+use Rattle.layouts.proofs.TableLaws.{length-points, points-are, split-length, split-whole, split-counts, parts-are, multipoint-are, there-measure}
+use Rattle.layouts.proofs.TableLaws
 use Rattle.writer.specs.declared.State.{State}
 use Rattle.writer.specs.Adding.{Lent, lentKind, lentForm, valueOf, pointShape, lentShape}
-use Rattle.writer.proofs.Accepted.{Accepted, accepted, code, point-tables, parts-tables, shape-fits}
-use Rattle.writer.proofs.ShapeLaws.{lent-nothing, lent-point, lent-parts}
-use Rattle.readback.specs.Held.{Held}
-use Rattle.readback.specs.ReadBack.{value, shapedAs, Roomy, StoresShape}
+use Rattle.writer.proofs.Accepted.{Accepted, accepted, code, point-tables, several-tables, several-parts, shape-fits}
+use Rattle.writer.proofs.ShapeLaws.{lent-nothing, lent-point, lent-several, empty}
+use Rattle.record.specs.Reading.{multipointShape, partsShape}
+use Rattle.readback.specs.Held.{DoublesHeld, Held}
+use Rattle.readback.specs.ReadBack.{value, bodyAs, shapedAs, RoomFor, Roomy, StoresPoints, StoresShape}
 use Rattle.readback.proofs.ReadsBack.{reads-back}
-use Rattle.written.specs.Written.{Typed, valueAt, shapedBy, Room, TablesIn, written, ReadsWritten}
+use Rattle.written.specs.Written.{Typed, bodyLent, valueAt, shapedBy, Room, TablesIn, written, ReadsWritten}
 use Rattle.written.proofs.Tables.{back, held, all-back, all-held, range-is, measure-held, values-are, double-at, points-one, value-held, value-is}
 
 -- what the theorem needs of the shape that was lent, where its form is this one
 record Fine (t : Lent) (form : Form) (s : Shape) : Type 0 where
   held : Held s
   shaped : shapedAs (lentKind t) s ≡ shapedBy form t
-  room : (counts xy zs ms : ℕ) → (form ≡ Lengths.parts → Room t counts xy zs ms) → Roomy s counts xy zs ms
-  stores : (bytes : List ℕ) → form ≡ Lengths.parts → StoresShape s bytes → TablesIn t bytes
+  room : (counts xy zs ms : ℕ) → (several form ≡ true → Room t counts xy zs ms) → Roomy s counts xy zs ms
+  stores : (bytes : List ℕ) → several form ≡ true → StoresShape s bytes → TablesIn t bytes
 
 has-room : (flag : Bool) (n have store : ℕ) → have ≡ cond flag n 0 → have ≤ store → flag ≡ true → n ≤ store
 has-room true n have store e h f = omega arith
 has-room false n have store e h f = absurd (let z : _≡_ {A = ℕ} 0 1 = cc in omega arith)
 
+-- the points that the tables give
+pairs-lent : (f : Bool) (counts : List ℕ) (xy : List Float) → length xy ≡ 2 * pointsLent f counts xy → pointsLent f counts xy ≡ length (pointsOf xy)
+pairs-lent f counts xy e = omega (arith, e, length-points xy)
+
 module _ (s : State) (t : Lent) (a : Accepted s t) (d : Typed t) where
-  module _ (form : lentForm t ≡ Lengths.parts) where
-    agree : Agreed (lentKind t .z) (lentKind t .m) (sum (t .counts)) (t .xy) (t .zs) (t .ms)
-    agree = parts-tables s t a form
+  -- ---- several points, in parts or as a multipoint
 
-    points : sum (t .counts) ≡ length (pointsOf (t .xy))
-    points = omega (arith, agree .xy-has, length-points (t .xy))
+  module _ (f : Bool) (form : lentForm t ≡ severalForm f) where
+    agree : Agreed (lentKind t .z) (lentKind t .m) (pointsLent f (t .counts) (t .xy)) (t .xy) (t .zs) (t .ms)
+    agree = several-tables s t a f form .1
 
-    whole : flatten (splitBy (t .counts) (pointsOf (t .xy))) ≡ pointsOf (t .xy)
-    whole = split-whole (t .counts) (pointsOf (t .xy)) points
+    points : pointsLent f (t .counts) (t .xy) ≡ length (pointsOf (t .xy))
+    points = pairs-lent f (t .counts) (t .xy) (agree .xy-has)
+
+    flag : lentKind t .parts ≡ f
+    flag = several-parts s t a f form
 
     coordinates : WellFormed.coordinates (pointsOf (t .xy)) ≡ map bits (t .xy)
     coordinates = points-are (t .xy) (omega (arith, agree .xy-has))
@@ -63,67 +72,102 @@ module _ (s : State) (t : Lent) (a : Accepted s t) (d : Typed t) where
     abbrev m : Option Measure
     m = measureOf (lentKind t .m) (t .box .mmin) (t .box .mmax) (t .ms)
 
-    abbrev shape : Parts
-    shape = record { box = boxOf (t .box); parts = splitBy (t .counts) (pointsOf (t .xy)); z = z; m = m }
-
-    shape-is : lentShape t ≡ parted shape
-    shape-is = lent-parts t form ∙ ap parted (parts-are (lentKind t .z) (lentKind t .m) (t .box) (t .counts) (t .xy) (t .zs) (t .ms))
-
     z-there : there z ≡ lentKind t .z
     z-there = there-measure (lentKind t .z) (t .box .zmin) (t .box .zmax) (t .zs)
 
     m-there : there m ≡ lentKind t .m
     m-there = there-measure (lentKind t .m) (t .box .mmin) (t .box .mmax) (t .ms)
 
-    parts-room : (counts xy zs ms : ℕ) → Room t counts xy zs ms → Roomy (parted shape) counts xy zs ms
-    parts-room counts xy zs ms r =
-        rw (split-length (t .counts) (pointsOf (t .xy)), whole, ← points, z-there, m-there) (
-          r .for-counts,
-          omega (arith, agree .xy-has, r .for-xy),
-          has-room (lentKind t .z) (sum (t .counts)) (length (t .zs)) zs (agree .zs-has) (r .for-zs),
-          has-room (lentKind t .m) (sum (t .counts)) (length (t .ms)) ms (agree .ms-has) (r .for-ms),
+    points-held : DoublesHeld (boxOf (t .box)) (pointsOf (t .xy)) z m
+    points-held =
+        let b = t .box in
+        let g = d .box in
+        record {
+          box-held = (held (b .xmin) (g .xmin), (held (b .ymin) (g .ymin), (held (b .xmax) (g .xmax), (held (b .ymax) (g .ymax), tt))));
+          points-held = rw coordinates (all-held (t .xy) (d .xy));
+          z-held = measure-held (b .zmin) (b .zmax) (t .zs) (lentKind t .z) (g .zmin) (g .zmax) (d .zs);
+          m-held = measure-held (b .mmin) (b .mmax) (t .ms) (lentKind t .m) (g .mmin) (g .mmax) (d .ms);
+        }
+
+    body-is : bodyAs (length (t .counts)) (boxOf (t .box)) (pointsOf (t .xy)) z m ≡ bodyLent t
+    body-is =
+        let b = t .box in
+        let g = d .box in
+        rw (
+          back (b .xmin) (g .xmin),
+          back (b .ymin) (g .ymin),
+          back (b .xmax) (g .xmax),
+          back (b .ymax) (g .ymax),
+          range-is (b .zmin) (b .zmax) (t .zs) (lentKind t .z) (g .zmin) (g .zmax),
+          range-is (b .mmin) (b .mmax) (t .ms) (lentKind t .m) (g .mmin) (g .mmax),
+          flag,
+          points,
         )
 
-    parts-stores : (bytes : List ℕ) → StoresShape (parted shape) bytes → TablesIn t bytes
-    parts-stores bytes st =
-        let zs = values-are (t .box .zmin) (t .box .zmax) (t .zs) (sum (t .counts)) (lentKind t .z) (agree .zs-has) (d .zs) in
-        let ms = values-are (t .box .mmin) (t .box .mmax) (t .ms) (sum (t .counts)) (lentKind t .m) (agree .ms-has) (d .ms) in
+    points-room : (counts xy zs ms : ℕ) → Room t counts xy zs ms → RoomFor (length (t .counts)) (length (pointsOf (t .xy))) z m counts xy zs ms
+    points-room counts xy zs ms r =
+        rw (← points, z-there, m-there) (
+          r .for-counts,
+          omega (arith, agree .xy-has, r .for-xy),
+          has-room (lentKind t .z) (pointsLent f (t .counts) (t .xy)) (length (t .zs)) zs (agree .zs-has) (r .for-zs),
+          has-room (lentKind t .m) (pointsLent f (t .counts) (t .xy)) (length (t .ms)) ms (agree .ms-has) (r .for-ms),
+        )
+
+    points-stored : (bytes : List ℕ) → StoresPoints f (t .counts) (pointsOf (t .xy)) z m bytes → TablesIn t bytes
+    points-stored bytes st =
+        let n = pointsLent f (t .counts) (t .xy) in
+        let zs = values-are (t .box .zmin) (t .box .zmax) (t .zs) n (lentKind t .z) (agree .zs-has) (d .zs) in
+        let ms = values-are (t .box .mmin) (t .box .mmax) (t .ms) n (lentKind t .m) (agree .ms-has) (d .ms) in
         record {
-          counts-back = st .0 ∙ split-counts (t .counts) (pointsOf (t .xy)) points;
-          xy-back = st .1 ∙ (ap (λ (ps : List Point). map value (WellFormed.coordinates ps)) whole ∙ (ap (map value) coordinates ∙ all-back (t .xy) (d .xy)));
-          zs-back = (rw z-there at (st .2)) ∙ zs;
-          ms-back = (rw (z-there, m-there) at (st .3)) ∙ ap (map raised) ms;
+          counts-back = rw flag (st .0);
+          xy-back = rw flag (st .1 ∙ (ap (map value) coordinates ∙ all-back (t .xy) (d .xy)));
+          zs-back = rw flag ((rw z-there at (st .2)) ∙ zs);
+          ms-back = rw flag ((rw (z-there, m-there) at (st .3)) ∙ ap (map raised) ms);
         }
 
-    parts-fine : Fine t Lengths.parts (parted shape)
-    parts-fine =
-        let k = lentKind t in
-        let b = t .box in
-        let f = d .box in
+  -- ---- a multipoint: there are no part counts
+
+  module _ (form : lentForm t ≡ manyPoints) where
+    no-counts : t .counts ≡ []
+    no-counts = empty (t .counts) (TableLaws.no-counts false (length (t .counts)) (several-tables s t a false form .0) refl)
+
+    abbrev many : Multipoint
+    many = record { box = boxOf (t .box); points = pointsOf (t .xy); z = z false form; m = m false form }
+
+    many-is : lentShape t ≡ multipoint many
+    many-is = lent-several t false form ∙ ap multipoint (multipoint-are (lentKind t .z) (lentKind t .m) (t .box) (t .xy) (t .zs) (t .ms))
+
+    many-fine : Fine t manyPoints (multipoint many)
+    many-fine =
         record {
-          held = record {
-            box = (held (b .xmin) (f .xmin), (held (b .ymin) (f .ymin), (held (b .xmax) (f .xmax), (held (b .ymax) (f .ymax), tt))));
-            points = rw (whole, coordinates) (all-held (t .xy) (d .xy));
-            z = measure-held (b .zmin) (b .zmax) (t .zs) (k .z) (f .zmin) (f .zmax) (d .zs);
-            m = measure-held (b .mmin) (b .mmax) (t .ms) (k .m) (f .mmin) (f .mmax) (d .ms);
-          };
-          shaped =
-              rw (
-                ← code s t a,
-                m-there,
-                back (b .xmin) (f .xmin),
-                back (b .ymin) (f .ymin),
-                back (b .xmax) (f .xmax),
-                back (b .ymax) (f .ymax),
-                range-is (b .zmin) (b .zmax) (t .zs) (k .z) (f .zmin) (f .zmax),
-                range-is (b .mmin) (b .mmax) (t .ms) (k .m) (f .mmin) (f .mmax),
-                split-length (t .counts) (pointsOf (t .xy)),
-                whole,
-                points,
-              );
-          room = λ counts xy zs ms r. parts-room counts xy zs ms (r refl);
-          stores = λ bytes e st. parts-stores bytes st;
+          held = points-held false form;
+          shaped = rw (← code s t a, m-there false form) (ap (multipointShape (t .code) (lentKind t .m)) (sym (ap (λ (c : List ℕ). bodyAs (length c) (boxOf (t .box)) (pointsOf (t .xy)) (z false form) (m false form)) no-counts) ∙ body-is false form));
+          room = λ counts xy zs ms r. rw (ap length no-counts) at (points-room false form counts xy zs ms (r refl));
+          stores = λ bytes e st. points-stored false form bytes (rw no-counts st);
         }
+
+  -- ---- parts: the counts part the points
+
+  module _ (form : lentForm t ≡ Lengths.parts) where
+    whole : flatten (splitBy (t .counts) (pointsOf (t .xy))) ≡ pointsOf (t .xy)
+    whole = split-whole (t .counts) (pointsOf (t .xy)) (points true form)
+
+    abbrev parted-so : Parts
+    parted-so = record { box = boxOf (t .box); parts = splitBy (t .counts) (pointsOf (t .xy)); z = z true form; m = m true form }
+
+    parts-is : lentShape t ≡ parted parted-so
+    parts-is = lent-several t true form ∙ ap parted (parts-are (lentKind t .z) (lentKind t .m) (t .box) (t .counts) (t .xy) (t .zs) (t .ms))
+
+    parts-fine : Fine t Lengths.parts (parted parted-so)
+    parts-fine =
+        record {
+          held = rw whole (points-held true form);
+          shaped = rw (← code s t a, m-there true form, split-length (t .counts) (pointsOf (t .xy)), whole) (ap (partsShape (t .code) (lentKind t .m)) (body-is true form));
+          room = λ counts xy zs ms r. rw (split-length (t .counts) (pointsOf (t .xy)), whole) (points-room true form counts xy zs ms (r refl));
+          stores = λ bytes e st. points-stored true form bytes (rw (whole, split-counts (t .counts) (pointsOf (t .xy)) (points true form)) at st);
+        }
+
+  -- ---- one point
 
   module _ (form : lentForm t ≡ onePoint) where
     agree-one : Agreed (lentKind t .z) (lentKind t .m) 1 (t .xy) (t .zs) (t .ms)
@@ -172,7 +216,8 @@ module _ (s : State) (t : Lent) (a : Accepted s t) (d : Typed t) where
         stores = λ bytes f st. absurd (let z : _≡_ {A = ℕ} 0 1 = cc in omega arith);
       })
   all-fine onePoint e = rw (lent-point t e, one-is e) (point-fine e)
-  all-fine Lengths.parts e = rw (shape-is e) (parts-fine e)
+  all-fine manyPoints e = rw (many-is e) (many-fine e)
+  all-fine Lengths.parts e = rw (parts-is e) (parts-fine e)
 
 pub reads-written : ReadsWritten
 reads-written s t out start entry n e d small =
