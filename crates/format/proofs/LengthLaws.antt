@@ -21,8 +21,8 @@ use Rattle.format.specs.declared.lengths.Counted.the-variants.{Is, Long}
 use Rattle.format.specs.declared.lengths.Formula.{Formula}
 use Rattle.format.specs.declared.lengths.Lengths.{Lengths}
 use Rattle.format.specs.declared.units.Words.{Words}
-use Rattle.format.specs.Kinds.{nullKind, kinds, rowOf, kindAt}
-use Rattle.format.specs.Lengths.{Form, nothing, onePoint, manyPoints, parts, isMultipoint, hasSeveral, formOf, several, severalForm, frontWords, fixedWords, pointWords, contentWords, lengthsFor, lengthsOf, saidContent, orNotTaken, lengthsIn, contentOf, formulaWords, saidCounted, counted}
+use Rattle.format.specs.Kinds.{nullKind, kinds, rowOf, kindAt, kindOr}
+use Rattle.format.specs.Lengths.{Form, nothing, onePoint, manyPoints, parts, isMultipoint, hasSeveral, formOf, formIn, formAt, several, severalForm, frontWords, fixedWords, pointWords, contentWords, lengthsFor, lengthsOf, saidContent, orNotTaken, lengthsIn, contentOf, formulaWords, saidCounted, counted}
 use Rattle.format.specs.Said.{Said, gives, unknown, notTaken, long}
 use Rattle.format.specs.Shapes.{Shape, null, point, multipoint, parted, OfKind, ownKind}
 use Rattle.format.specs.Units.{sameInt}
@@ -191,6 +191,21 @@ form-several k parts t = ap₂ _||_ (t .parts-is) (t .many-is)
 pub form-parts : (k : Kind) (flag : Bool) → Flags k (severalForm flag) → k .parts ≡ flag
 form-parts k true t = t .parts-is
 form-parts k false t = t .parts-is
+
+-- and the kind's parts say which form that is
+pub several-form : (k : Kind) (f : Form) → Flags k f → several f ≡ true → f ≡ severalForm (k .parts)
+several-form k nothing t e = absurd (let z : _≡_ {A = ℕ} 0 1 = cc in omega arith)
+several-form k onePoint t e = absurd (let z : _≡_ {A = ℕ} 0 1 = cc in omega arith)
+several-form k manyPoints t e = ap severalForm (sym (t .parts-is))
+several-form k parts t e = ap severalForm (sym (t .parts-is))
+
+-- the form of a code is that of its kind
+pub code-flags : (z : ℤ) (f : Form) → formAt z ≡ some f → Flags (kindOr (kindAt z)) f
+code-flags z f e = go (kindAt z) refl e
+  where
+    go : (o : Option Kind) → kindAt z ≡ o → formIn o ≡ some f → Flags (kindOr o) f
+    go none h e = absurd (let z : _≡_ {A = ℕ} 0 1 = cc in omega arith)
+    go (some k) h e = form-flags z k f h e
 
 -- Null's kind is the table's, and taken
 pub null-row : kindAt (pos 0) ≡ some nullKind

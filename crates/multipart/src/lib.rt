@@ -116,19 +116,8 @@ fn read_rest(
         Walk::Size(at) => BodyAnswer::Size(at),
         Walk::On(points) => {
             if store::has_room(z, m, p, points, counts.len(), xy.len(), zs.len(), ms.len()) {
-                BodyAnswer::Whole(store::store_body(
-                    s,
-                    parts,
-                    z,
-                    m,
-                    p,
-                    n,
-                    points,
-                    counts,
-                    xy,
-                    zs,
-                    ms,
-                ))
+                let body = store::store_body(s, parts, z, m, p, n, points, counts, xy, zs, ms);
+                BodyAnswer::Whole(body)
             } else {
                 BodyAnswer::Room(p, points)
             }

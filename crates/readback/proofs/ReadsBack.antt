@@ -9,13 +9,12 @@ use lib.IntN.{pos}
 use lib.ListN.{length}
 use Rattle.format.specs.declared.kinds.Kind.{Kind}
 use Rattle.format.specs.Encoding.{content, shapeBytes, shapeWords}
-use Rattle.format.specs.Lengths.{manyPoints, severalForm, formOf, contentWords}
-use Rattle.format.specs.Lengths
+use Rattle.format.specs.Lengths.{severalForm, formOf, contentWords}
 use Rattle.format.specs.Said.{gives}
 use Rattle.format.specs.Shapes.{Point, BoxXY, Measure, Shape, null, point, multipoint, parted, there}
 use Rattle.format.proofs.Equations.{words-multipoint, words-parted}
 use Rattle.format.proofs.Laid.{content-behind}
-use Rattle.format.proofs.LengthLaws.{form-flags}
+use Rattle.format.proofs.LengthLaws.{form-flags, form-parts}
 use Rattle.multipart.specs.Answers.{Two, countsOf}
 use Rattle.record.specs.Reading.{severalShape, hasM, sizeRight, severalOf}
 use Rattle.record.proofs.ShapeLaws
@@ -61,8 +60,7 @@ module _ (f : Bool) (k : Kind) (s : Shape) (p : ℕ) (box : BoxXY) (ps : List Po
 
 -- the kind's flag, by its form
 flag-of : (k : Kind) (f : Bool) → TakenKind k → formOf k ≡ some (severalForm f) → k .parts ≡ f
-flag-of k true t e = form-flags (pos (k .code)) k Lengths.parts (t .in-table) e .parts-is
-flag-of k false t e = form-flags (pos (k .code)) k manyPoints (t .in-table) e .parts-is
+flag-of k f t e = form-parts k f (form-flags (pos (k .code)) k (severalForm f) (t .in-table) e)
 
 pub reads-back : ReadsBack
 reads-back k null t o v small =

@@ -12,11 +12,12 @@ use Rattle.format.proofs.SaidLaws.{value, second, told-one}
 use Rattle.record.specs.declared.Wanted.{Wanted}
 use Rattle.record.specs.declared.RecordAnswer.{RecordAnswer}
 use Rattle.record.specs.declared.RecordAnswer.the-variants as Is
-use Rattle.record.specs.Reading.{Shaped, nullShape, pointShape, partsShape, saidRecord, stored, ReadsRecord}
+use Rattle.record.specs.Reading.{Shaped, nullShape, pointShape, multipointShape, partsShape, saidRecord, stored, ReadsRecord}
 
 tellRecord : Said Shaped → RecordAnswer
 tellRecord (gives nullShape) = Is.Null
 tellRecord (gives (pointShape code p)) = Is.Point code p
+tellRecord (gives (multipointShape code m body)) = Is.Multipoint code m body
 tellRecord (gives (partsShape code m body)) = Is.Parts code m body
 tellRecord (refuses n vs) =
     cond (eqb n 1) (Is.Short (natAbs (value vs)) (natAbs (second vs)))
@@ -32,6 +33,7 @@ one-record = told-one saidRecord tellRecord back
     back : (a : RecordAnswer) → tellRecord (saidRecord a) ≡ a
     back Is.Null = refl
     back (Is.Point code p) = refl
+    back (Is.Multipoint code m body) = refl
     back (Is.Parts code m body) = refl
     back (Is.Short at present) = refl
     back (Is.Size at) = refl

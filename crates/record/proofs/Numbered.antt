@@ -8,8 +8,7 @@ use lib.Dec.{eqb}
 use lib.ListN.{drop}
 use Rattle.format.specs.declared.kinds.Kind.{Kind}
 use Rattle.format.specs.declared.units.Bytes.{Bytes}
-use Rattle.format.specs.Kinds.{kindAt, kindOr}
-use Rattle.format.specs.Lengths.{Form, nothing, onePoint, parts, contentWords, formAt}
+use Rattle.format.specs.Lengths.{Form, nothing, onePoint, manyPoints, parts, contentWords, formAt}
 use Rattle.format.specs.Order.{fieldsFrom}
 use Rattle.format.specs.Said.{Said, gives, refuses, short, wrongSize, Numbered}
 use Rattle.format.proofs.OrderLaws.{AllNumbered, cond-numbered, first-numbered, fields-numbered}
@@ -18,7 +17,7 @@ use Rattle.multipart.specs.Body.{bodyOf}
 use Rattle.multipart.proofs.Numbered.{counts-numbered, body-numbered}
 use Rattle.record.specs.declared.Wanted.{Wanted}
 use Rattle.record.specs.declared.Wanted.the-variants as Wants
-use Rattle.record.specs.Reading.{Shaped, codeIn, frontTests, isWords, doublesOf, pointOf, moved, andThen, hasM, sizeRight, partsOf, byForm, recordOf}
+use Rattle.record.specs.Reading.{Shaped, codeIn, kindIn, frontTests, isWords, doublesOf, pointOf, moved, andThen, hasM, sizeRight, severalOf, byForm, recordOf}
 
 front-numbered : (wanted : Wanted) (size : Bytes) (s : List ℕ) → AllNumbered (frontTests {A = Shaped} wanted size s)
 front-numbered Wants.Any size s = omega arith
@@ -41,24 +40,25 @@ module _ (k : Kind) (size : Bytes) (s : List ℕ) where
       (omega arith, fields-numbered Shaped 8 (doublesOf k) 4 s) tt
 
   module _ (counts xy zs ms : ℕ) where
-    parts-numbered : Numbered (partsOf k size s counts xy zs ms)
-    unfolding partsOf
-    parts-numbered =
+    several-numbered : Numbered (severalOf k size s counts xy zs ms)
+    unfolding severalOf
+    several-numbered =
         let b = drop 4 s in
-        then-numbered (moved (countsOf b)) _ (moved-numbered (countsOf b) (counts-numbered b))
+        then-numbered (moved (countsOf (k .parts) b)) _ (moved-numbered (countsOf (k .parts) b) (counts-numbered (k .parts) b))
         (λ two.
-        let body = bodyOf (k .z) (hasM k size two) b counts xy zs ms in
+        let body = bodyOf (k .parts) (k .z) (hasM k size two) b counts xy zs ms in
         cond-numbered (sizeRight k size two) _ (wrongSize 0)
-        (then-numbered (moved body) _ (moved-numbered body (body-numbered (k .z) (hasM k size two) b counts xy zs ms)) (λ read. tt))
+        (then-numbered (moved body) _ (moved-numbered body (body-numbered (k .parts) (k .z) (hasM k size two) b counts xy zs ms)) (λ read. tt))
         (omega arith))
 
     form-numbered : (form : Option Form) → Numbered (byForm form k size s counts xy zs ms)
     form-numbered none = omega arith
     form-numbered (some nothing) = tt
     form-numbered (some onePoint) = point-numbered
-    form-numbered (some parts) = parts-numbered
+    form-numbered (some manyPoints) = several-numbered
+    form-numbered (some parts) = several-numbered
 
 pub record-numbered : (wanted : Wanted) (size : Bytes) (s : List ℕ) (counts xy zs ms : ℕ) → Numbered (recordOf wanted size s counts xy zs ms)
 unfolding recordOf
 record-numbered wanted size s counts xy zs ms =
-    first-numbered (frontTests wanted size s) _ (front-numbered wanted size s) (form-numbered (kindOr (kindAt (codeIn s))) size s counts xy zs ms (formAt (codeIn s)))
+    first-numbered (frontTests wanted size s) _ (front-numbered wanted size s) (form-numbered (kindIn s) size s counts xy zs ms (formAt (codeIn s)))

@@ -1,5 +1,5 @@
 -- The refusals of reading a record that name a place lie within its content: those of a body are the body's, moved by the kind's field.
-use mathlib.Core.Path.{_≡_, refl, ap}
+use mathlib.Core.Path.{_≡_, refl, ap, subst}
 use mathlib.Core.Bool.{Bool, true, false, cond, _&&_, _||_, not}
 use mathlib.Core.List.{List, [], _∷_, _++_}
 use mathlib.Core.Option.{Option, none, some}
@@ -11,11 +11,12 @@ use lib.ListN.{length, drop, length-drop}
 use borrow.Author.Tests.{le-leb}
 use Rattle.format.specs.declared.kinds.Kind.{Kind}
 use Rattle.format.specs.declared.units.Bytes.{Bytes}
-use Rattle.format.specs.Kinds.{known, kindAt, kindOr}
-use Rattle.format.specs.Lengths.{Form, nothing, onePoint, parts, contentWords, formAt}
+use Rattle.format.specs.Kinds.{known}
+use Rattle.format.specs.Lengths.{Form, nothing, onePoint, manyPoints, parts, severalForm, contentWords, formAt}
 use Rattle.format.specs.Order.{first}
 use Rattle.format.specs.Said.{Said, gives, refuses, notTaken}
 use Rattle.format.specs.Units.{sameInt, inI32}
+use Rattle.format.proofs.LengthLaws.{Flags, code-flags}
 use Rattle.format.proofs.OrderLaws.{first-append}
 use Rattle.format.proofs.Placed.{ValuesPlaced, Placed, elsewhere, size-placed, test-placed, field-placed, fields-placed}
 use Rattle.multipart.specs.Answers.{countsOf}
@@ -23,21 +24,26 @@ use Rattle.multipart.specs.Body.{bodyWidth, bodyOf}
 use Rattle.multipart.proofs.Placed.{counts-placed, body-placed}
 use Rattle.record.specs.declared.Wanted.{Wanted}
 use Rattle.record.specs.declared.Wanted.the-variants as Wants
-use Rattle.record.specs.Reading.{Shaped, codeIn, isTaken, wantedTests, mismatchTests, foundTests, isWords, doublesOf, pointOf, ahead, moved, andThen, hasM, sizeRight, partsOf, byForm, recordOf, contentWidth}
+use Rattle.record.specs.Reading.{Shaped, codeIn, kindIn, isTaken, wantedTests, mismatchTests, foundTests, isWords, doublesOf, pointOf, ahead, moved, andThen, hasM, sizeRight, severalOf, byForm, recordOf, widthBy, contentWidth}
 
 -- ---- behind the kind's field, in a content of a form
 
-module _ (s : List ℕ) (h : 4 ≤ length s) where
-  abbrev W : ℕ → ℕ
-  W = contentWidth (some parts) s
+-- the body's fields are the content's, by whether it has parts
+several-width : (f : Bool) (b : List ℕ) (at : ℕ) → widthBy (some (severalForm f)) b at ≡ bodyWidth f b at
+several-width true b at = refl
+several-width false b at = refl
 
-  moved-by : (A : Type 0) (b : Bool) (n : ℕ) (values : List ℤ) → eqb n 1 || eqb n 3 ≡ b → ValuesPlaced (bodyWidth (drop 4 s)) (drop 4 s) n values → Placed W s {A = A} (cond b (refuses n (ahead values)) (refuses n values))
+module _ (f : Bool) (s : List ℕ) (h : 4 ≤ length s) where
+  abbrev W : ℕ → ℕ
+  W = contentWidth (some (severalForm f)) s
+
+  moved-by : (A : Type 0) (b : Bool) (n : ℕ) (values : List ℤ) → eqb n 1 || eqb n 3 ≡ b → ValuesPlaced (bodyWidth f (drop 4 s)) (drop 4 s) n values → Placed W s {A = A} (cond b (refuses n (ahead values)) (refuses n values))
   moved-by A true n values e p = (
     (λ i.
         let q = p .0 i in
         let l = length-drop 4 s in
         let b : 4 + q .at - 4 ≡ q .at = omega arith in
-        record { at = 4 + q .at; present = q .present; are = ap ahead (q .are); ends = omega (arith, q .ends, l); fewer = rw (le-leb 4 (4 + q .at) (omega arith), b) (q .fewer) }),
+        record { at = 4 + q .at; present = q .present; are = ap ahead (q .are); ends = omega (arith, q .ends, l); fewer = rw (le-leb 4 (4 + q .at) (omega arith), b, several-width f (drop 4 s) (q .at)) (q .fewer) }),
     (λ i.
         let q = p .1 i in
         let l = length-drop 4 s in
@@ -45,7 +51,7 @@ module _ (s : List ℕ) (h : 4 ≤ length s) where
   )
   moved-by A false n values e p = elsewhere W s n values e
 
-  moved-placed : {A : Type 0} (said : Said A) → Placed (bodyWidth (drop 4 s)) (drop 4 s) said → Placed W s (moved said)
+  moved-placed : {A : Type 0} (said : Said A) → Placed (bodyWidth f (drop 4 s)) (drop 4 s) said → Placed W s (moved said)
   moved-placed (gives a) p = tt
   moved-placed {A = A} (refuses n values) p = moved-by A (eqb n 1 || eqb n 3) n values refl p
 
@@ -62,22 +68,28 @@ module _ (k : Kind) (size : Bytes) (s : List ℕ) (h : 4 ≤ length s) where
       (λ e. fields-placed w s 8 (doublesOf k) 4 (lit< tt) h (λ p i j. rw (le-leb 4 p i)) _ (λ l. tt))
 
   module _ (counts xy zs ms : ℕ) where
-    parts-placed : Placed (contentWidth (some parts) s) s (partsOf k size s counts xy zs ms)
-    unfolding partsOf
-    parts-placed =
-        let w = contentWidth (some parts) s in
+    several-placed : Placed (contentWidth (some (severalForm (k .parts))) s) s (severalOf k size s counts xy zs ms)
+    unfolding severalOf
+    several-placed =
+        let w = contentWidth (some (severalForm (k .parts))) s in
         let b = drop 4 s in
-        then-placed w s (moved (countsOf b)) _ (moved-placed s h (countsOf b) (counts-placed b))
+        let two = countsOf (k .parts) b in
+        then-placed w s (moved two) _ (moved-placed (k .parts) s h two (counts-placed (k .parts) b))
         (λ two.
-        let body = bodyOf (k .z) (hasM k size two) b counts xy zs ms in
+        let body = bodyOf (k .parts) (k .z) (hasM k size two) b counts xy zs ms in
         test-placed w s (sizeRight k size two) _ _ (size-placed w s 0 zero-le)
-        (λ e. then-placed w s (moved body) _ (moved-placed s h body (body-placed (k .z) (hasM k size two) b counts xy zs ms)) (λ read. tt)))
+        (λ e. then-placed w s (moved body) _ (moved-placed (k .parts) s h body (body-placed (k .parts) (k .z) (hasM k size two) b counts xy zs ms)) (λ read. tt)))
 
-    form-placed : (form : Option Form) → Placed (contentWidth form s) s (byForm form k size s counts xy zs ms)
-    form-placed none = elsewhere (contentWidth none s) s 9 _ refl
-    form-placed (some nothing) = tt
-    form-placed (some onePoint) = point-placed
-    form-placed (some parts) = parts-placed
+    -- in the form that the kind's parts say
+    several-form-placed : (f : Bool) → k .parts ≡ f → Placed (contentWidth (some (severalForm f)) s) s (severalOf k size s counts xy zs ms)
+    several-form-placed f e = subst (λ (x : Bool). Placed (contentWidth (some (severalForm x)) s) s (severalOf k size s counts xy zs ms)) e several-placed
+
+    form-placed : (form : Option Form) → ((f : Form) → form ≡ some f → Flags k f) → Placed (contentWidth form s) s (byForm form k size s counts xy zs ms)
+    form-placed none flags = elsewhere (contentWidth none s) s 9 _ refl
+    form-placed (some nothing) flags = tt
+    form-placed (some onePoint) flags = point-placed
+    form-placed (some manyPoints) flags = several-form-placed false (flags manyPoints refl .parts-is)
+    form-placed (some parts) flags = several-form-placed true (flags parts refl .parts-is)
 
 -- ---- in front of it
 
@@ -113,8 +125,7 @@ pub record-placed : (wanted : Wanted) (size : Bytes) (s : List ℕ) (counts xy z
 unfolding recordOf
 record-placed wanted size s counts xy zs ms =
     let form = formAt (codeIn s) in
-    let kind = kindOr (kindAt (codeIn s)) in
-    let a = byForm form kind size s counts xy zs ms in
+    let a = byForm form (kindIn s) size s counts xy zs ms in
     rw (first-append (wantedTests wanted) (foundTests wanted size s) a)
     (wanted-placed (contentWidth form s) s (first (foundTests wanted size s) a) wanted
-    (found-placed form wanted size s a (λ h. form-placed kind size s h counts xy zs ms form)))
+    (found-placed form wanted size s a (λ h. form-placed (kindIn s) size s h counts xy zs ms form (code-flags (codeIn s)))))

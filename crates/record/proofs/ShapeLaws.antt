@@ -1,9 +1,10 @@
 -- Laws of the whole: which form a taken kind has, and how what the front and the shape say is what the record says.
 use mathlib.Core.Path.{_≡_, refl, sym, ap, _∙_}
-use mathlib.Core.Bool.{true, false, cond}
+use mathlib.Core.Bool.{Bool, true, false}
 use mathlib.Core.List.{List}
 use mathlib.Core.Option.{Option, some}
 use Prim.Native.Nat.{ℕ}
+use native.Mathlib.Omega.{arith}
 use lib.Dec.{eqb}
 use lib.Ieee.{Float}
 use lib.IntN.{ℤ}
@@ -13,40 +14,55 @@ use Rattle.format.specs.declared.kinds.Kind.{Kind}
 use Rattle.format.specs.declared.lengths.Lengths.{Lengths}
 use Rattle.format.specs.declared.units.Bytes.{Bytes}
 use Rattle.format.specs.Kinds.{kindAt, kindOr}
-use Rattle.format.specs.Lengths.{Form, nothing, onePoint, parts, formOf, lengthsFor, lengthsOf, formIn}
+use Rattle.format.specs.Lengths.{Form, nothing, onePoint, manyPoints, parts, several, severalForm, hasSeveral, formOf, lengthsFor, formIn}
 use Rattle.format.specs.Said.{Said, gives}
-use Rattle.format.proofs.LengthLaws.{lengths-form, form-by}
-use Rattle.multipart.specs.Body.{zIn, mIn, bodyOf}
+use Rattle.format.proofs.LengthLaws.{Flags, lengths-form, form-flags, form-several}
+use Rattle.format.proofs.LengthLaws
+use Rattle.multipart.specs.Body.{countsIn, xyIn, zIn, mIn, bodyOf}
 use Rattle.multipart.specs.declared.Body.{Body}
 use Rattle.multipart.specs.Answers.{Two, countsOf}
 use Rattle.record.specs.declared.Wanted.{Wanted}
 use Rattle.record.specs.declared.RecordAnswer.{RecordAnswer}
 use Rattle.record.specs.declared.RecordAnswer.the-variants as Is
-use Rattle.record.specs.Reading.{Shaped, partsShape, codeIn, frontTests, pointOf, hasM, sizeRight, partsOf, byForm, recordOf, saidRecord, stored, ReadsRecord}
-use Rattle.record.specs.Steps.{Passes, Refuses, Takes, Answers, Reads, restFrom, partsFrom}
-use Rattle.record.proofs.PartsLaws.{stored-none}
+use Rattle.record.specs.Reading.{Shaped, severalShape, codeIn, kindIn, frontTests, pointOf, hasM, sizeRight, severalOf, byForm, recordOf, saidRecord, stored, ReadsRecord}
+use Rattle.record.specs.Steps.{Passes, Refuses, Takes, Answers, Reads, restFrom, severalFrom}
+use Rattle.record.proofs.SeveralLaws.{stored-none}
 
--- ---- the form of a kind that has lengths
+-- ---- the form of a taken kind
 
-module _ (k : Kind) (l : Lengths) (t : lengthsOf k ≡ some l) where
+module _ (size : Bytes) (s : List ℕ) (k : Kind) (l : Lengths) (taken : Takes size s k l) where
   formed : (form : Form) × (formOf k ≡ some form) × (l ≡ lengthsFor k form)
-  formed = lengths-form k l t
+  formed = lengths-form k l (taken .lengths-are)
 
-  form-is : formed .0 ≡ cond (eqb (k .code) 0) nothing (cond (k .parts) parts onePoint)
-  form-is = form-by k (formed .0) (formed .1)
+  flags : Flags k (formed .0)
+  flags = form-flags (codeIn s) k (formed .0) (taken .kind-is) (formed .1)
 
   of-form : (f : Form) → formed .0 ≡ f → (formOf k ≡ some f) × (l ≡ lengthsFor k f)
   of-form f e = (formed .1 ∙ ap some e, formed .2 ∙ ap (lengthsFor k) e)
 
   pub null-form : k .code ≡ 0 → formOf k ≡ some nothing
-  null-form e = of-form nothing (form-is ∙ rw (eq-eqb (k .code) 0 e)) .0
+  null-form e = of-form nothing (go (formed .0) flags (eq-eqb (k .code) 0 e)) .0
+    where
+      go : (f : Form) → Flags k f → eqb (k .code) 0 ≡ true → f ≡ nothing
+      go nothing t e = refl
+      go onePoint t e = absurd (let q = sym e ∙ t .null-is in let z : _≡_ {A = ℕ} 0 1 = cc in omega arith)
+      go manyPoints t e = absurd (let q = sym e ∙ t .null-is in let z : _≡_ {A = ℕ} 0 1 = cc in omega arith)
+      go parts t e = absurd (let q = sym e ∙ t .null-is in let z : _≡_ {A = ℕ} 0 1 = cc in omega arith)
 
-  module _ (n : k .code ≡ 0 → ⊥) where
-    pub parts-form : k .parts ≡ true → (formOf k ≡ some parts) × (l ≡ lengthsFor k parts)
-    parts-form e = of-form parts (form-is ∙ rw (ne-eqb (k .code) 0 n, e))
+  several-is : several (formed .0) ≡ hasSeveral k
+  several-is = sym (form-several k (formed .0) flags)
 
-    pub point-form : k .parts ≡ false → (formOf k ≡ some onePoint) × (l ≡ lengthsFor k onePoint)
-    point-form e = of-form onePoint (form-is ∙ rw (ne-eqb (k .code) 0 n, e))
+  pub several-form : hasSeveral k ≡ true → (formOf k ≡ some (severalForm (k .parts))) × (l ≡ lengthsFor k (severalForm (k .parts)))
+  several-form e = of-form (severalForm (k .parts)) (LengthLaws.several-form k (formed .0) flags (several-is ∙ e))
+
+  pub point-form : (k .code ≡ 0 → ⊥) → hasSeveral k ≡ false → (formOf k ≡ some onePoint) × (l ≡ lengthsFor k onePoint)
+  point-form n e = of-form onePoint (go (formed .0) flags (ne-eqb (k .code) 0 n) (several-is ∙ e))
+    where
+      go : (f : Form) → Flags k f → eqb (k .code) 0 ≡ false → several f ≡ false → f ≡ onePoint
+      go nothing t n e = absurd (let q = sym n ∙ t .null-is in let z : _≡_ {A = ℕ} 0 1 = cc in omega arith)
+      go onePoint t n e = refl
+      go manyPoints t n e = absurd (let z : _≡_ {A = ℕ} 0 1 = cc in omega arith)
+      go parts t n e = absurd (let z : _≡_ {A = ℕ} 0 1 = cc in omega arith)
 
 -- ---- the shape by its form
 
@@ -55,7 +71,7 @@ module _ (k : Kind) (size : Bytes) (s counts : List ℕ) (xy zs ms : List Float)
   said o = byForm o k size s (length counts) (length xy) (length zs) (length ms)
 
   abbrev Shape : RecordAnswer → List ℕ → List Float → List Float → List Float → Type 0
-  Shape r counts′ xy′ zs′ ms′ = Reads (said (formOf k)) (k .z) (drop 4 s) counts xy zs ms r counts′ xy′ zs′ ms′
+  Shape r counts′ xy′ zs′ ms′ = Reads (said (formOf k)) (k .parts) (k .z) (drop 4 s) counts xy zs ms r counts′ xy′ zs′ ms′
 
   -- nothing is stored
   plain : (o : Option Form) (r : RecordAnswer) → formOf k ≡ o → Answers (said o) r → Shape r counts xy zs ms
@@ -74,15 +90,19 @@ module _ (k : Kind) (size : Bytes) (s counts : List ℕ) (xy zs ms : List Float)
   pub point-shape : (r : RecordAnswer) → formOf k ≡ some onePoint → Answers (pointOf k size s) r → Shape r counts xy zs ms
   point-shape r e h = plain (some onePoint) r e h
 
-  parts-are : partsFrom (codeIn s) k size (drop 4 s) (length counts) (length xy) (length zs) (length ms) ≡ partsOf k size s (length counts) (length xy) (length zs) (length ms)
-  unfolding partsFrom partsOf restFrom
-  parts-are = refl
+  several-are : severalFrom (codeIn s) k size (drop 4 s) (length counts) (length xy) (length zs) (length ms) ≡ severalOf k size s (length counts) (length xy) (length zs) (length ms)
+  unfolding severalFrom severalOf restFrom
+  several-are = refl
 
-  pub parts-shape : (code : ℤ) (b : List ℕ) (r : RecordAnswer) (counts′ : List ℕ) (xy′ zs′ ms′ : List Float) → formOf k ≡ some parts → code ≡ codeIn s → b ≡ drop 4 s → Reads (partsFrom code k size b (length counts) (length xy) (length zs) (length ms)) (k .z) b counts xy zs ms r counts′ xy′ zs′ ms′ → Shape r counts′ xy′ zs′ ms′
-  parts-shape code b r counts′ xy′ zs′ ms′ e f g h =
-      let i : Reads (partsFrom (codeIn s) k size (drop 4 s) (length counts) (length xy) (length zs) (length ms)) (k .z) (drop 4 s) counts xy zs ms r counts′ xy′ zs′ ms′ = rw (f, g) at h in
+  by-several : (f : Bool) → severalOf k size s (length counts) (length xy) (length zs) (length ms) ≡ said (some (severalForm f))
+  by-several true = refl
+  by-several false = refl
+
+  pub several-shape : (code : ℤ) (b : List ℕ) (r : RecordAnswer) (counts′ : List ℕ) (xy′ zs′ ms′ : List Float) → formOf k ≡ some (severalForm (k .parts)) → code ≡ codeIn s → b ≡ drop 4 s → Reads (severalFrom code k size b (length counts) (length xy) (length zs) (length ms)) (k .parts) (k .z) b counts xy zs ms r counts′ xy′ zs′ ms′ → Shape r counts′ xy′ zs′ ms′
+  several-shape code b r counts′ xy′ zs′ ms′ e f g h =
+      let i : Reads (severalFrom (codeIn s) k size (drop 4 s) (length counts) (length xy) (length zs) (length ms)) (k .parts) (k .z) (drop 4 s) counts xy zs ms r counts′ xy′ zs′ ms′ = rw (f, g) at h in
       record {
-        says = i .says ∙ (parts-are ∙ ap said (sym e));
+        says = i .says ∙ (several-are ∙ (by-several (k .parts) ∙ ap said (sym e)));
         counts-are = i .counts-are;
         xy-are = i .xy-are;
         z-are = i .z-are;
@@ -90,9 +110,9 @@ module _ (k : Kind) (size : Bytes) (s counts : List ℕ) (xy zs ms : List Float)
       }
 
 -- a body whose counts, size and rest are well
-pub parts-said : (k : Kind) (size : Bytes) (s : List ℕ) (counts xy zs ms : ℕ) (t : Two) (body : Body) → countsOf (drop 4 s) ≡ gives t → sizeRight k size t ≡ true → bodyOf (k .z) (hasM k size t) (drop 4 s) counts xy zs ms ≡ gives body → partsOf k size s counts xy zs ms ≡ gives (partsShape (codeIn s) (hasM k size t) body)
-unfolding partsOf
-parts-said k size s counts xy zs ms t body e q f = rw (e, q, f)
+pub several-said : (k : Kind) (size : Bytes) (s : List ℕ) (counts xy zs ms : ℕ) (t : Two) (body : Body) → countsOf (k .parts) (drop 4 s) ≡ gives t → sizeRight k size t ≡ true → bodyOf (k .parts) (k .z) (hasM k size t) (drop 4 s) counts xy zs ms ≡ gives body → severalOf k size s counts xy zs ms ≡ gives (severalShape (k .parts) (codeIn s) (hasM k size t) body)
+unfolding severalOf
+several-said k size s counts xy zs ms t body e q f = rw (e, q, f)
 
 -- ---- the record
 
@@ -114,12 +134,15 @@ module _ (wanted : Wanted) (size : Bytes) (s counts : List ℕ) (xy zs ms : List
       }
 
   module _ (k : Kind) (l : Lengths) (p : Passes (frontTests wanted size s)) (t : Takes size s k l) where
-    pub shaped : (r : RecordAnswer) (counts′ : List ℕ) (xy′ zs′ ms′ : List Float) → Reads (byForm (formOf k) k size s (length counts) (length xy) (length zs) (length ms)) (k .z) (drop 4 s) counts xy zs ms r counts′ xy′ zs′ ms′ → ReadsRecord wanted size s counts xy zs ms r counts′ xy′ zs′ ms′
+    named : k ≡ kindIn s
+    named = ap kindOr (sym (t .kind-is))
+
+    pub shaped : (r : RecordAnswer) (counts′ : List ℕ) (xy′ zs′ ms′ : List Float) → Reads (byForm (formOf k) k size s (length counts) (length xy) (length zs) (length ms)) (k .parts) (k .z) (drop 4 s) counts xy zs ms r counts′ xy′ zs′ ms′ → ReadsRecord wanted size s counts xy zs ms r counts′ xy′ zs′ ms′
     shaped r counts′ xy′ zs′ ms′ h =
         record {
           says = h .says ∙ by-kind wanted size s k _ _ _ _ p (t .kind-is);
-          counts-are = h .counts-are;
-          xy-are = h .xy-are;
-          z-are = h .z-are ∙ ap (λ (o : Option Kind). stored (saidRecord r) zs (λ m. zIn (kindOr o .z) (drop 4 s))) (sym (t .kind-is));
-          m-are = h .m-are ∙ ap (λ (o : Option Kind). stored (saidRecord r) ms (λ m. mIn (kindOr o .z) m (drop 4 s))) (sym (t .kind-is));
+          counts-are = h .counts-are ∙ ap (λ (x : Kind). stored (saidRecord r) counts (λ m. countsIn (x .parts) (drop 4 s))) named;
+          xy-are = h .xy-are ∙ ap (λ (x : Kind). stored (saidRecord r) xy (λ m. xyIn (x .parts) (drop 4 s))) named;
+          z-are = h .z-are ∙ ap (λ (x : Kind). stored (saidRecord r) zs (λ m. zIn (x .parts) (x .z) (drop 4 s))) named;
+          m-are = h .m-are ∙ ap (λ (x : Kind). stored (saidRecord r) ms (λ m. mIn (x .parts) (x .z) m (drop 4 s))) named;
         }

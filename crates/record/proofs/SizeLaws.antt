@@ -13,7 +13,7 @@ use Rattle.format.specs.declared.units.Bytes.{Bytes}
 use Rattle.format.specs.declared.units.InWords.{InWords}
 use Rattle.format.specs.declared.units.InWords.the-variants.{Is, Not}
 use Rattle.format.specs.declared.units.Words.{Words}
-use Rattle.format.specs.Lengths.{parts, contentWords, lengthsFor, formulaWords}
+use Rattle.format.specs.Lengths.{Form, severalForm, contentWords, lengthsFor, formulaWords}
 use Rattle.format.specs.Units.{sameInt, inI32, saidWords, inWords}
 use Rattle.format.proofs.Equations.{words-are}
 use Rattle.format.proofs.UnitLaws.{same-no, words-doubled, no-words, doubled-same}
@@ -82,17 +82,25 @@ module _ (size : Bytes) (h : Held size) where
 pub words-size : (size : Bytes) (r : InWords) → saidWords r ≡ inWords size → (v : Words) → r ≡ Is v → (w : ℕ) → sameInt (v .0) (pos w) ≡ isWords size w
 words-size size r e v g w = doubled-same (v .0) w ∙ ap (λ (z : ℤ). sameInt z (pos (2 * w))) (words-doubled size r e v g)
 
--- ---- the two formulas of a kind with parts
+-- ---- the two formulas of a kind with several points
 
-module _ (k : Kind) (l : Lengths) (size : Bytes) (p n : ℕ) (e : l ≡ lengthsFor k parts) where
+-- the one without m, which they may lack
+without-words : (k : Kind) (p n : ℕ) (f : Bool) → contentWords (severalForm f) (k .z) false p n ≡ formulaWords (lengthsFor k (severalForm f) .without) p n
+without-words k p n true = words-are (severalForm true) (k .z) false p n
+without-words k p n false = words-are (severalForm false) (k .z) false p n
+
+module _ (k : Kind) (l : Lengths) (size : Bytes) (p n : ℕ) (e : l ≡ lengthsFor k (severalForm (k .parts))) where
+  abbrev form : Form
+  form = severalForm (k .parts)
+
   abbrev fits : Bool → Bool
-  fits m = isWords size (contentWords parts (k .z) m p n)
+  fits m = isWords size (contentWords form (k .z) m p n)
 
   with-is : isWords size (formulaWords (l .with) p n) ≡ fits (k .m)
-  with-is = ap (λ (x : Lengths). isWords size (formulaWords (x .with) p n)) e ∙ ap (isWords size) (sym (words-are parts (k .z) (k .m) p n))
+  with-is = ap (λ (x : Lengths). isWords size (formulaWords (x .with) p n)) e ∙ ap (isWords size) (sym (words-are form (k .z) (k .m) p n))
 
   without-is : isWords size (formulaWords (l .without) p n) ≡ fits false
-  without-is = ap (λ (x : Lengths). isWords size (formulaWords (x .without) p n)) e ∙ ap (isWords size) (sym (words-are parts (k .z) false p n))
+  without-is = ap (λ (x : Lengths). isWords size (formulaWords (x .without) p n)) e ∙ ap (isWords size) (sym (without-words k p n (k .parts)))
 
   or-true : (a : Bool) → (a || true) ≡ true
   or-true true = refl

@@ -1,7 +1,6 @@
 -- `multipart::judge::judge_pairs` meets its contract: of parts the starts, then each part; of a multipoint the pairs that the bytes have room for.
 use mathlib.Core.Path.{_≡_, ap, _∙_, subst}
 use mathlib.Core.Bool.{Bool, true, false}
-use Prim.Native.Nat.{_+_, _*_}
 use native.Mathlib.Omega.{arith}
 use lib.IntN.{natAbs}
 use mir.Syntax.{w32}
