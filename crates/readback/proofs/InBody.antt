@@ -12,8 +12,7 @@ use lib.ListN.{length, getD}
 use borrow.Author.Tests.{le-leb}
 use Rattle.format.specs.declared.kinds.Kind.{Kind}
 use Rattle.format.specs.Numbers.{leF64}
-use Rattle.format.specs.Order.{first}
-use Rattle.format.specs.Said.{Said, gives, short}
+use Rattle.format.specs.Said.{gives, short}
 use Rattle.format.specs.Shapes.{Point, BoxXY, Measure, there, MeasuresOf}
 use Rattle.format.specs.WellFormed.{coordinates}
 use Rattle.format.proofs.Laid.{boxDoubles, pointsDoubles, doubles-laid}
@@ -48,7 +47,7 @@ pub record LaidOut (f : Bool) (k : Kind) (b : List ℕ) (p : ℕ) (box : BoxXY) 
   pub doubles-stand : Stands (pairsPlace f p) (run 8 (pointsDoubles ps z m)) b
   pub parts-are : p ≡ partsIn f b
   pub points-are : length ps ≡ pointsIn f b
-  pub counts-pass : {A : Type 0} (a : Said A) → first (countTests f b) a ≡ a
+  pub counts-pass : Passes (countTests f b)
   pub pairs-pass : Passes (pairTests f b)
 
 measure-pass : (flag : Bool) (n at : ℕ) (s : List ℕ) → at + cond flag (16 + 8 * n) 0 ≤ length s → Passes (measureTests flag n at s)
