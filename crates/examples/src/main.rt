@@ -236,6 +236,7 @@ fn show_body(s: &[u8], n: usize) {
     }
     match multipart::read_body(
         &s[0..n],
+        true,
         false,
         false,
         &mut counts,

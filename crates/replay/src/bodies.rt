@@ -148,7 +148,7 @@ fn read(
     ms: &mut [f64],
 ) -> bool {
     fill(counts, xy, zs, ms);
-    let answer = multipart::read_body(s, z, m, counts, xy, zs, ms);
+    let answer = multipart::read_body(s, true, z, m, counts, xy, zs, ms);
     judged(e, answer, z, m, counts, xy, zs, ms)
 }
 

@@ -1,6 +1,6 @@
 -- Document 01's starred examples: what the definitions give beside what the document says, a row each, and one statement over all of them.
 use mathlib.Core.Path.{_≡_}
-use mathlib.Core.Bool.{Bool, false, cond}
+use mathlib.Core.Bool.{Bool, true, false, cond}
 use mathlib.Core.List.{List, [], _∷_, _++_, map, flatten}
 use mathlib.Core.Option.{none}
 use Prim.Native.Nat.{ℕ, zero, suc, _+_}
@@ -83,10 +83,10 @@ bitsOf x = pos (toBits binary64 x)
 
 -- read without z and m into stores with room for 4 parts and 8 points: the counts, or the counts and the bits of the pairs
 abbrev readCounts : List ℕ → List ℤ
-readCounts s = shown (λ (b : Body). map pos (countsIn s)) (bodyOf false false s 4 16 0 0)
+readCounts s = shown (λ (b : Body). map pos (countsIn true s)) (bodyOf true false false s 4 16 0 0)
 
 abbrev readPairs : List ℕ → List ℤ
-readPairs s = shown (λ (b : Body). map pos (countsIn s) ++ map bitsOf (xyIn s)) (bodyOf false false s 4 16 0 0)
+readPairs s = shown (λ (b : Body). map pos (countsIn true s) ++ map bitsOf (xyIn true s)) (bodyOf true false false s 4 16 0 0)
 
 -- ---- rings
 
