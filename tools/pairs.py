@@ -9,9 +9,10 @@ import shutil
 import struct
 import sys
 
-KINDS = (0, 1, 21, 11, 3, 23, 13, 5, 25, 15)
-LINE, RING = {3, 13, 23}, {5, 15, 25}
-HAS_Z, HAS_M = {11, 13, 15}, {11, 13, 15, 21, 23, 25}
+KINDS = (0, 1, 21, 11, 3, 23, 13, 5, 25, 15, 8, 28, 18)
+NAMES = {3: "Polyline", 8: "Multipoint", 28: "MultipointM", 18: "MultipointZ"}
+LINE, RING, SET = {3, 13, 23}, {5, 15, 25}, {8, 28, 18}
+HAS_Z, HAS_M = {11, 13, 15, 18}, {11, 13, 15, 18, 21, 23, 25, 28}
 NAN, INF = float("nan"), float("inf")
 
 
@@ -57,6 +58,16 @@ def parted(kind, parts, z=5.0, m=6.0, with_m=True, box=(0.0, 0.0, 9.0, 9.0), sta
     return little(kind) + body
 
 
+def multipoint(kind, points, z=5.0, m=6.0, with_m=True, box=(0.0, 0.0, 9.0, 9.0), z_range=(0.0, 9.0), m_range=(0.0, 9.0), n=None):
+    """A set of points, a list of (x, y)."""
+    body = doubles(*box) + little(len(points) if n is None else n) + doubles(*[c for xy in points for c in xy])
+    if kind in HAS_Z:
+        body += doubles(*z_range) + doubles(*[z] * len(points))
+    if kind in HAS_M and with_m:
+        body += doubles(*m_range) + doubles(*[m] * len(points))
+    return little(kind) + body
+
+
 def pair(kind, contents, shp_head=None, shx_head=None, numbers=None, entries=None, words=None, tail=b"", index_tail=b"", **head):
     """The two files of these contents, each part of which a case may put in wrong."""
     records, index, at = b"", [], 50
@@ -89,9 +100,18 @@ def good(kind):
         return [NULL, NULL], 0, 0
     if kind in (1, 11, 21):
         return [point(kind), point(kind, x=-0.0)], 0, 2
+    if kind in SET:
+        return [multipoint(kind, BEND), multipoint(kind, [(1.0, 2.0)])], 0, 4
     if kind in LINE:
         return [parted(kind, [SEGMENT, BEND]), parted(kind, [BEND])], 3, 8
     return [parted(kind, [SQUARE, TRIANGLE]), parted(kind, [TRIANGLE])], 3, 13
+
+
+def another_length(kind, words, n):
+    """What is said of a multipoint of n points whose content has another number of words than it should."""
+    without = 20 + 8 * n + (8 + 4 * n if kind in HAS_Z else 0)
+    with_m = ", or %d with m" % (without + 8 + 4 * n) if kind in HAS_M else ""
+    return "%d words; a %s of %d point%s has %d%s" % (words, NAMES[kind], n, "" if n == 1 else "s", without, with_m)
 
 
 def exchange(index):
@@ -127,6 +147,11 @@ def cases():
         n = len(run[0])
         both = [parted(kind, run, with_m=False), parted(kind, run)]
         yield "lacks_m_%d" % kind, pair(kind, both), "yes records=2 parts=2 points=%d" % (2 * n)
+    for kind in (28, 18):
+        both = [multipoint(kind, SEGMENT, with_m=False), NULL, multipoint(kind, SEGMENT)]
+        yield "lacks_m_%d" % kind, pair(kind, both), "yes records=3 parts=0 points=4"
+    # the points of a set may be equal, in any order, and outside of its box
+    yield "multipoint_any", pair(8, [multipoint(8, [(7.0, 7.0), (-0.0, 0.0), (7.0, 7.0), (99.0, -99.0)])]), "yes records=1 parts=0 points=4"
     # -0.0 and 0.0 are one number: the ring is closed
     ring = [(0.0, 0.0), (0.0, 1.0), (1.0, 1.0), (-0.0, 0.0)]
     yield "closed_by_zeros", pair(5, [parted(5, [ring])]), "yes records=1 parts=1 points=4"
@@ -145,9 +170,8 @@ def cases():
         "byte 23 of the .shp is 1; bytes 4 to 23 should be 0"
     yield "P3_version", (shp[:28] + little(1001) + shp[32:], shx), "no rule=P3 record=0", \
         "the version of the .shp is 1001; it should be 1000"
-    names = {8: "Multipoint", 18: "MultipointZ", 28: "MultipointM", 31: "Multipatch"}
-    for kind in (2, 8, 18, 28, 31, -1):
-        ends = ", a %s, which is not taken" % names[kind] if kind in names else "; there is no such kind"
+    for kind in (2, 31, -1):
+        ends = ", a Multipatch, which is not taken" if kind == 31 else "; there is no such kind"
         yield "P4_%s" % str(kind).replace("-", "minus"), pair(kind, []), "no rule=P4 record=0", "the header's kind is %d%s" % (kind, ends)
     yield "P5_long", (shp[:24] + big(95) + shp[28:], shx), "no rule=P5 record=0", \
         "the header of the .shp says 95 words, which is 190 bytes; the file has 188 bytes"
@@ -185,6 +209,9 @@ def cases():
         "record 2: its length is 49 words, which is 98 bytes; the file has 96 bytes left"
     yield "P10_negative", pair(3, [parted(3, [SEGMENT])], words=[-40]), "no rule=P10 record=1", \
         "record 1: its length is -40 words; it should be at least 2"
+    cut = [multipoint(8, BEND), multipoint(8, BEND)[:-16]]
+    yield "P10_multipoint_cut", pair(8, cut, words=[44, 44]), "no rule=P10 record=2", \
+        "record 2: its length is 44 words, which is 88 bytes; the file has 72 bytes left"
     yield "P11_missing", pair(3, two, entries=lambda i: i[:1]), "no rule=P11 record=2", \
         "record 2: the index has 1 entry, and none for this record"
     yield "P11_offset", pair(3, two, entries=lambda i: [i[0], (i[1][0] + 1, i[1][1])]), "no rule=P11 record=2", \
@@ -200,6 +227,11 @@ def cases():
         "record 2: the index says byte 200, the record stands at byte 188"
     yield "P11_null_length", pair(3, with_null, entries=lambda i: [i[0], (i[1][0], 0), i[2]]), "no rule=P11 record=2", \
         "record 2: the index says 0 words, the record's header says 2"
+    for kind in (8, 28, 18):
+        drops = [multipoint(kind, BEND), NULL, multipoint(kind, [(1.0, 2.0)])]
+        at, last = 100 + 8 + len(drops[0]), 100 + 8 + len(drops[0]) + 12
+        yield "P11_multipoint_exchanged_%d" % kind, pair(kind, drops, entries=lambda i: [i[0], i[2], i[1]]), "no rule=P11 record=2", \
+            "record 2: the index says byte %d, the record stands at byte %d" % (last, at)
     yield "P12_other", pair(3, [parted(3, [SEGMENT]), parted(5, [SQUARE])]), "no rule=P12 record=2", \
         "record 2: its kind is 5, a Polygon; the header's is 3, a Polyline"
     yield "P12_behind_null", pair(3, [parted(3, [SEGMENT]), NULL, parted(5, [SQUARE])]), "no rule=P12 record=3", \
@@ -208,6 +240,12 @@ def cases():
         "record 2: its kind is 3, a Polyline; the header's is 0, a Null"
     yield "P12_low_byte_0", pair(3, [little(256) + parted(3, [SEGMENT])[4:]]), "no rule=P12 record=1", \
         "record 1: its kind is 256, which is no kind; the header's is 3, a Polyline"
+    for kind in (8, 28, 18):
+        yield "P12_line_in_%d" % kind, pair(kind, [multipoint(kind, BEND), parted(3, [SEGMENT])]), "no rule=P12 record=2", \
+            "record 2: its kind is 3, a Polyline; the header's is %d, a %s" % (kind, NAMES[kind])
+    for header_kind, kind in ((3, 8), (8, 28), (28, 18), (18, 8)):
+        yield "P12_%d_in_%d" % (kind, header_kind), pair(header_kind, [NULL, multipoint(kind, BEND)]), "no rule=P12 record=2", \
+            "record 2: its kind is %d, a %s; the header's is %d, a %s" % (kind, NAMES[kind], header_kind, NAMES[header_kind])
     yield "P13_null_long", pair(0, [little(0, 0)]), "no rule=P13 record=1", \
         "record 1: 4 words; a Null has 2"
     yield "P13_null_of_3", pair(3, [parted(3, [SEGMENT]), NULL + b"\0\0"]), "no rule=P13 record=2", \
@@ -232,6 +270,30 @@ def cases():
         "record 1: 42 words; a Polyline of 1 part and 2 points has 40"
     yield "P13_m_of_none", pair(3, [parted(3, [SEGMENT]) + doubles(0.0, 0.0, 0.0, 0.0)]), "no rule=P13 record=1", \
         "record 1: 56 words; a Polyline of 1 part and 2 points has 40"
+    for kind in (8, 28, 18):
+        some = multipoint(kind, BEND)
+        least = 28 if kind in HAS_Z else 20
+        yield "P13_multipoint_no_count_%d" % kind, pair(kind, [some[:38]]), "no rule=P13 record=1", \
+            "record 1: 19 words; a %s has at least %d" % (NAMES[kind], least)
+        yield "P13_multipoint_n_negative_%d" % kind, pair(kind, [multipoint(kind, BEND, n=-1)]), "no rule=P13 record=1", \
+            "record 1: its number of points is -1; it should not be below 0"
+        yield "P13_multipoint_one_more_%d" % kind, pair(kind, [multipoint(kind, BEND, n=4)]), "no rule=P13 record=1", \
+            "record 1: " + another_length(kind, len(some) // 2, 4)
+        yield "P13_multipoint_most_%d" % kind, pair(kind, [multipoint(kind, BEND, n=0x7FFFFFFF)]), "no rule=P13 record=1", \
+            "record 1: " + another_length(kind, len(some) // 2, 0x7FFFFFFF)
+        yield "P13_multipoint_long_%d" % kind, pair(kind, [some + little(0)]), "no rule=P13 record=1", \
+            "record 1: " + another_length(kind, len(some) // 2 + 2, 3)
+        # the counts and the start of a line: that of its parts stands where a multipoint has that of its points
+        yield "P13_multipoint_as_line_%d" % kind, pair(kind, [little(kind) + parted(3, [BEND])[4:]]), "no rule=P13 record=1", \
+            "record 1: " + another_length(kind, 48, 1)
+    yield "P13_multipoint_kind_alone", pair(18, [little(18)]), "no rule=P13 record=1", \
+        "record 1: 2 words; a MultipointZ has at least 28"
+    yield "P13_multipoint_m_of_none", pair(8, [multipoint(8, BEND) + doubles(0.0, 9.0, 6.0, 6.0, 6.0)]), "no rule=P13 record=1", \
+        "record 1: 64 words; a Multipoint of 3 points has 44"
+    yield "P13_multipoint_z_lacks", pair(18, [little(18) + multipoint(8, BEND)[4:]]), "no rule=P13 record=1", \
+        "record 1: 44 words; a MultipointZ of 3 points has 64, or 84 with m"
+    yield "P13_line_as_multipoint", pair(3, [little(3) + multipoint(8, BEND)[4:]]), "no rule=P13 record=1", \
+        "record 1: 44 words; a Polyline of 3 parts and 0 points has 28"
     yield "P14_no_part", pair(3, [parted(3, [])]), "no rule=P14 record=1", \
         "record 1: 0 parts; a Polyline has at least 1"
     yield "P14_start", pair(3, [parted(3, [BEND], starts=[1])]), "no rule=P14 record=1", \
@@ -248,6 +310,13 @@ def cases():
         "record 1: part 2 has 3 points, from 5 to 8; a Polygon's has at least 4"
     yield "P14_behind_null", pair(3, [NULL, parted(3, [])]), "no rule=P14 record=2", \
         "record 2: 0 parts; a Polyline has at least 1"
+    for kind in (8, 28, 18):
+        for name, with_m in (("", True), ("_without_m", False)):
+            if with_m or kind != 8:
+                yield "P14_multipoint_%d%s" % (kind, name), pair(kind, [multipoint(kind, [], with_m=with_m)]), "no rule=P14 record=1", \
+                    "record 1: 0 points; a %s has at least 1" % NAMES[kind]
+    yield "P14_multipoint_behind_null", pair(8, [multipoint(8, BEND), NULL, multipoint(8, [])]), "no rule=P14 record=3", \
+        "record 3: 0 points; a Multipoint has at least 1"
     open_ring = [(0.0, 0.0), (0.0, 1.0), (1.0, 1.0), (1.0, 0.0)]
     yield "P15_open", pair(5, [parted(5, [open_ring])]), "no rule=P15 record=1", \
         "record 1: ring 1 begins at (0, 0) and ends at (1, 0); it should end where it begins"
@@ -277,6 +346,27 @@ def cases():
         "record 1: x of point 1 is inf; it should be finite"
     yield "P16_behind_null", pair(11, [NULL, point(11, z=NAN)]), "no rule=P16 record=2", \
         "record 2: z of point 1 is NaN; it should be finite"
+    for kind in (8, 28, 18):
+        yield "P16_multipoint_box_%d" % kind, pair(kind, [multipoint(kind, BEND, box=(0.0, 0.0, 0.0, NAN))]), "no rule=P16 record=1", \
+            "record 1: Ymax of its box is NaN; it should be finite"
+        yield "P16_multipoint_x_%d" % kind, pair(kind, [multipoint(kind, [(NAN, 0.0), (1.0, 1.0)])]), "no rule=P16 record=1", \
+            "record 1: x of point 1 is NaN; it should be finite"
+        yield "P16_multipoint_y_%d" % kind, pair(kind, [NULL, multipoint(kind, [(0.0, 0.0), (1.0, INF)])]), "no rule=P16 record=2", \
+            "record 2: y of point 2 is inf; it should be finite"
+    yield "P16_multipoint_z_range", pair(18, [multipoint(18, BEND, with_m=False, z_range=(NAN, 9.0))]), "no rule=P16 record=1", \
+        "record 1: Zmin of its range is NaN; it should be finite"
+    for name, with_m in (("", True), ("_without_m", False)):
+        yield "P16_multipoint_z%s" % name, pair(18, [multipoint(18, BEND, with_m=with_m, z=-INF)]), "no rule=P16 record=1", \
+            "record 1: z of point 1 is -inf; it should be finite"
+    for kind in (28, 18):
+        yield "P16_multipoint_m_range_%d" % kind, pair(kind, [multipoint(kind, BEND, m_range=(0.0, INF))]), "no rule=P16 record=1", \
+            "record 1: Mmax of its range is inf; it should be finite"
+        yield "P16_multipoint_m_%d" % kind, pair(kind, [multipoint(kind, BEND, m=NAN)]), "no rule=P16 record=1", \
+            "record 1: m of point 1 is NaN; it should be finite"
+        # of its last double
+        last = multipoint(kind, BEND)[:-8] + doubles(NAN)
+        yield "P16_multipoint_last_%d" % kind, pair(kind, [last]), "no rule=P16 record=1", \
+            "record 1: m of point 3 is NaN; it should be finite"
     yield "P17_left", pair(3, two, entries=lambda i: i + [(200, 40)]), "no rule=P17 record=3", \
         "record 3: the index has 3 entries, the .shp has 2 records"
     yield "P17_of_none", pair(3, [], entries=lambda i: [(50, 40)]), "no rule=P17 record=1", \
