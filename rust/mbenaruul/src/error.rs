@@ -51,7 +51,8 @@ pub enum Error {
         /// The number of the record that breaks it, from 1; 0 for the headers.
         record: usize,
     },
-    /// 9: a kind that is not read, or not written. Null is not written as the first record.
+    /// 9: a kind that is not read or written: a multipatch; and Null, where it is wanted of a read, or
+    /// would be the first record that is written.
     NotTaken(i32),
     /// 10: tables that disagree in length, or a table of a Null record that is not empty.
     Tables,

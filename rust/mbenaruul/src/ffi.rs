@@ -60,9 +60,12 @@ pub struct Body {
 pub struct RecordRead {
     pub refusal: Refusal,
     pub code: i32,
+    /// 0 for Null, 1 for a point, 2 for a shape with parts, 3 for a multipoint.
     pub form: u32,
+    /// 1 where a shape with parts or a multipoint has m.
     pub has_m: u32,
     pub point: Point,
+    /// Of a shape with parts, and of a multipoint, which has 0 parts.
     pub body: Body,
 }
 

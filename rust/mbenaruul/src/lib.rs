@@ -78,7 +78,7 @@ pub use header::{
 };
 pub use pair::{check_pair, Plan, Records, Totals, Verdict};
 pub use reason::{Cause, Double, File, Reason};
-pub use record::{read_record, BBox, Range, Record, Shape, NO_DATA};
+pub use record::{read_record, BBox, Multipoint, Range, Record, Shape, NO_DATA};
 pub use rings::{
     close_points_if_not_already, is_part_closed, points, ring_type_from_points_ordering, RingType,
 };

@@ -9,7 +9,8 @@ use std::fmt;
 use std::iter::FusedIterator;
 use std::ops::Range;
 
-/// What an accepted pair holds. A point counts no part and one point, a Null record neither.
+/// What an accepted pair holds. A point counts no part and one point, a multipoint no part and its
+/// points, a Null record neither.
 #[repr(C)]
 #[derive(Debug, Clone, Copy, PartialEq, Eq)]
 pub struct Totals {

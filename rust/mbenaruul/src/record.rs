@@ -29,8 +29,57 @@ pub enum Record {
         /// As in the file, where the kind has m.
         m: Option<f64>,
     },
+    /// A set of points.
+    Multipoint(Multipoint),
     /// A shape with parts.
     Parts(Shape),
+}
+
+/// A set of points, in one record, without parts.
+///
+/// The book drops of a campus, a record for each building. The second building has two:
+///
+/// ```
+/// use mbenaruul::{kind, Plan, Record, Tables, Writer};
+///
+/// # fn main() -> Result<(), mbenaruul::Error> {
+/// let mut writer = Writer::new();
+/// for xy in [&[1.0, 2.0][..], &[5.0, 2.0, 7.0, 4.0]] {
+///     let drops = Tables {
+///         kind: kind::MULTIPOINT,
+///         xy, // no part counts: as many points as there are pairs
+///         ..Tables::default()
+///     };
+///     writer.add(&drops.with_true_bbox())?;
+/// }
+/// let (shp, shx) = writer.finish()?;
+///
+/// let plan = Plan::check(&shp, &shx)?;
+/// assert_eq!(plan.totals().to_string(), "records=2 parts=0 points=3");
+/// match plan.record(2) {
+///     Some(Ok(Record::Multipoint(drops))) => assert!(drops.points().eq([[5.0, 2.0], [7.0, 4.0]])),
+///     other => panic!("record 2 is a set of book drops, and not {:?}", other),
+/// }
+/// # Ok(())
+/// # }
+/// ```
+#[derive(Debug, Clone, PartialEq)]
+pub struct Multipoint {
+    /// One of the three multipoint kinds.
+    pub kind: i32,
+    /// The box of the points, as in the file.
+    pub bbox: BBox,
+    /// The range of z, as in the file, where the kind has z.
+    pub z_range: Option<Range>,
+    /// The range of m, as in the file, where the record has m.
+    pub m_range: Option<Range>,
+    /// The points: x0 y0 x1 y1 ..
+    pub xy: Vec<f64>,
+    /// One z for each point, where the kind has z; else none.
+    pub z: Vec<f64>,
+    /// One m for each point, where the record has m; else none. A value below [`NO_DATA`], or one
+    /// that is not a number, stands as `NO_DATA`.
+    pub m: Vec<f64>,
 }
 
 /// A polyline or a polygon.
@@ -55,7 +104,7 @@ pub struct Shape {
     pub m: Vec<f64>,
 }
 
-/// The box of a shape with parts.
+/// The box of a multipoint or of a shape with parts.
 #[repr(C)]
 #[derive(Debug, Clone, Copy, Default, PartialEq)]
 pub struct BBox {
@@ -93,22 +142,33 @@ impl Record {
         match self {
             Record::Null => kind::NULL,
             Record::Point { kind, .. } => *kind,
+            Record::Multipoint(points) => points.kind,
             Record::Parts(shape) => shape.kind,
         }
     }
 
-    /// Whether m lacks: a shape with parts may be of a kind with m and have none. The writer always
-    /// writes the m of such a kind, and refuses the record with [`Error::Tables`];
+    /// Whether m lacks: a multipoint or a shape with parts may be of a kind with m and have none. The
+    /// writer always writes the m of such a kind, and refuses the record with [`Error::Tables`];
     /// [`with_no_data`](Record::with_no_data) gives one that it takes.
     pub fn lacks_m(&self) -> bool {
-        matches!(self, Record::Parts(shape) if shape.lacks_m())
+        match self {
+            Record::Multipoint(points) => points.lacks_m(),
+            Record::Parts(shape) => shape.lacks_m(),
+            Record::Null | Record::Point { .. } => false,
+        }
     }
 
     /// The record with m: where it lacks, each point has [`NO_DATA`], and so has the range. A record
     /// that does not [lack m](Record::lacks_m) is as it was.
     pub fn with_no_data(mut self) -> Record {
-        if let Record::Parts(shape) = &mut self {
-            shape.fill_m();
+        if self.lacks_m() {
+            match &mut self {
+                Record::Multipoint(points) => {
+                    fill_m(&points.xy, &mut points.m_range, &mut points.m)
+                }
+                Record::Parts(shape) => fill_m(&shape.xy, &mut shape.m_range, &mut shape.m),
+                Record::Null | Record::Point { .. } => {}
+            }
         }
         self
     }
@@ -126,7 +186,32 @@ impl Record {
                 m: m.as_ref().map_or(&[], slice::from_ref),
                 ..Tables::default()
             },
+            Record::Multipoint(points) => points.tables(),
             Record::Parts(shape) => shape.tables(),
+        }
+    }
+}
+
+impl Multipoint {
+    /// The points, as pairs of x and y.
+    pub fn points(&self) -> impl DoubleEndedIterator<Item = [f64; 2]> + ExactSizeIterator + '_ {
+        rings::points(&self.xy)
+    }
+
+    /// As [`Record::lacks_m`].
+    pub fn lacks_m(&self) -> bool {
+        kind::has_m(self.kind) && self.m_range.is_none() && self.m.is_empty()
+    }
+
+    /// As [`Record::tables`].
+    pub fn tables(&self) -> Tables<'_> {
+        Tables {
+            kind: self.kind,
+            bbox: sides(self.bbox, self.z_range, self.m_range),
+            counts: &[],
+            xy: &self.xy,
+            z: &self.z,
+            m: &self.m,
         }
     }
 }
@@ -154,35 +239,37 @@ impl Shape {
         kind::has_m(self.kind) && self.m_range.is_none() && self.m.is_empty()
     }
 
-    fn fill_m(&mut self) {
-        if self.lacks_m() {
-            let points = self.points().len();
-            self.m = vec![NO_DATA; points];
-            self.m_range = Some(Range::NO_DATA);
-        }
-    }
-
     /// As [`Record::tables`].
     pub fn tables(&self) -> Tables<'_> {
-        let z = self.z_range.unwrap_or_default();
-        let m = self.m_range.unwrap_or_default();
         Tables {
             kind: self.kind,
-            bbox: BBoxZ {
-                xmin: self.bbox.xmin,
-                ymin: self.bbox.ymin,
-                xmax: self.bbox.xmax,
-                ymax: self.bbox.ymax,
-                zmin: z.low,
-                zmax: z.high,
-                mmin: m.low,
-                mmax: m.high,
-            },
+            bbox: sides(self.bbox, self.z_range, self.m_range),
             counts: &self.counts,
             xy: &self.xy,
             z: &self.z,
             m: &self.m,
         }
+    }
+}
+
+/// Each of the points has no data, and so has the range.
+fn fill_m(xy: &[f64], m_range: &mut Option<Range>, m: &mut Vec<f64>) {
+    *m = vec![NO_DATA; xy.len() / 2];
+    *m_range = Some(Range::NO_DATA);
+}
+
+/// A box and ranges as the writer takes them: 0 for a range that is not there.
+fn sides(bbox: BBox, z_range: Option<Range>, m_range: Option<Range>) -> BBoxZ {
+    let (z, m) = (z_range.unwrap_or_default(), m_range.unwrap_or_default());
+    BBoxZ {
+        xmin: bbox.xmin,
+        ymin: bbox.ymin,
+        xmax: bbox.xmax,
+        ymax: bbox.ymax,
+        zmin: z.low,
+        zmax: z.high,
+        mmin: m.low,
+        mmax: m.high,
     }
 }
 
@@ -228,13 +315,9 @@ fn record_of(read: ffi::RecordRead, stores: Stores) -> Record {
     match read.form {
         0 => Record::Null,
         1 => point_of(read.code, read.point),
-        2 => Record::Parts(shape_of(
-            read.code,
-            ffi::flag(read.has_m as usize),
-            read.body,
-            stores,
-        )),
-        other => panic!("the library gave form {other}, and there are three"),
+        2 => Record::Parts(shape_of(read, stores)),
+        3 => Record::Multipoint(multipoint_of(read, stores)),
+        other => panic!("the library gave form {other}, and there are four"),
     }
 }
 
@@ -247,8 +330,23 @@ fn point_of(kind: i32, point: ffi::Point) -> Record {
     }
 }
 
-fn shape_of(kind: i32, has_m: bool, body: ffi::Body, stores: Stores) -> Shape {
+fn multipoint_of(read: ffi::RecordRead, stores: Stores) -> Multipoint {
+    let shape = shape_of(read, stores);
+    Multipoint {
+        kind: shape.kind,
+        bbox: shape.bbox,
+        z_range: shape.z_range,
+        m_range: shape.m_range,
+        xy: shape.xy,
+        z: shape.z,
+        m: shape.m,
+    }
+}
+
+fn shape_of(read: ffi::RecordRead, stores: Stores) -> Shape {
+    let (kind, body) = (read.code, read.body);
     let (z_range, z) = measure(kind::has_z(kind), body.z_range, stores.z);
+    let has_m = ffi::flag(read.has_m as usize);
     let (m_range, m) = measure(has_m, body.m_range, stores.m);
     Shape {
         kind,

@@ -7,7 +7,7 @@ use crate::record::{Range, Record};
 
 /// A shape to write, in flat tables. The part counts sum to the number of points, n; xy holds 2n
 /// doubles; z and m hold n where the kind has them, else none. A point kind has no parts and n is
-/// 1. A Null has nothing in any table: the default is one.
+/// 1; a multipoint has no parts and any n. A Null has nothing in any table: the default is one.
 ///
 /// The tables of a record that was read are [`Record::tables`].
 #[derive(Debug, Clone, Copy, Default, PartialEq)]
@@ -18,7 +18,7 @@ pub struct Tables<'a> {
     /// true ones here. A point has none: its own values count. A Null has none either, and what
     /// stands here plays no part.
     pub bbox: BBoxZ,
-    /// The number of points of each part.
+    /// The number of points of each part; none for a point or a multipoint.
     pub counts: &'a [u32],
     /// The points: x0 y0 x1 y1 ..
     pub xy: &'a [f64],
@@ -85,9 +85,9 @@ fn range_of<'a>(values: impl Iterator<Item = &'a f64> + Clone) -> Option<Range> 
 /// Null; the first is not Null. A clone can be finished halfway.
 ///
 /// The writer judges kinds and the lengths of tables. It does not judge what the tables hold: a ring
-/// that is not closed, NaN or an infinity, a part of one point or of none, and a box that is not the
-/// true one are written as given. Of the pair that comes out, [`check_pair`](crate::check_pair)
-/// judges all of these but the boxes.
+/// that is not closed, NaN or an infinity, a part of one point or of none, a multipoint of no point,
+/// and a box that is not the true one are written as given. Of the pair that comes out,
+/// [`check_pair`](crate::check_pair) judges all of these but the boxes.
 ///
 /// A plan with an empty place, where a shelf run was taken down. The runs behind it keep their
 /// numbers:

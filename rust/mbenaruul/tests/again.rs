@@ -3,7 +3,9 @@
 mod common;
 
 use common::{bytes, read_all, record, with_nulls, written, Random, KINDS};
-use mbenaruul::{kind, BBoxZ, Error, Plan, Range, Record, Shape, Tables, Writer, NO_DATA};
+use mbenaruul::{
+    kind, BBoxZ, Error, Multipoint, Plan, Range, Record, Shape, Tables, Writer, NO_DATA,
+};
 
 fn shape_of(record: &Record) -> &Shape {
     match record {
@@ -92,14 +94,20 @@ fn tables_can_be_changed_before_they_are_written() {
 
 /// The record with m as it has to come back.
 fn filled(record: Record) -> Record {
+    let m_range = Some(Range {
+        low: NO_DATA,
+        high: NO_DATA,
+    });
     match record {
         Record::Parts(shape) if shape.m_range.is_none() => Record::Parts(Shape {
-            m_range: Some(Range {
-                low: NO_DATA,
-                high: NO_DATA,
-            }),
+            m_range,
             m: vec![NO_DATA; shape.xy.len() / 2],
             ..shape
+        }),
+        Record::Multipoint(set) if set.m_range.is_none() => Record::Multipoint(Multipoint {
+            m_range,
+            m: vec![NO_DATA; set.xy.len() / 2],
+            ..set
         }),
         whole => whole,
     }
@@ -107,7 +115,7 @@ fn filled(record: Record) -> Record {
 
 #[test]
 fn m_that_lacks_is_filled_with_no_data() {
-    for kind in [13, 15, 23, 25] {
+    for kind in [13, 15, 23, 25, 28, 18] {
         let [shp, shx] = ["shp", "shx"].map(|end| bytes(&format!("lacks_m_{kind}.{end}")));
         let plan = Plan::check(&shp, &shx).unwrap();
         let mut writer = Writer::new();
@@ -116,6 +124,7 @@ fn m_that_lacks_is_filled_with_no_data() {
             let record = record.unwrap();
             if record.lacks_m() {
                 assert_eq!(writer.add_record(&record), Err(Error::Tables));
+                assert_eq!(record.kind(), kind);
                 lacking += 1;
             }
             writer.add_record(&record.with_no_data()).unwrap();
@@ -135,7 +144,12 @@ fn an_m_that_is_there_is_not_filled() {
         m_range: None,
         ..shape_of(&record(kind::POLYGON_M, &mut Random::new(5))).clone()
     };
-    let put_together = Record::Parts(shape);
-    assert!(!put_together.lacks_m());
-    assert_eq!(put_together.clone().with_no_data(), put_together);
+    let set = Multipoint {
+        m_range: None,
+        ..common::multipoint(kind::MULTIPOINT_M, 3, &mut Random::new(5))
+    };
+    for put_together in [Record::Parts(shape), Record::Multipoint(set)] {
+        assert!(!put_together.lacks_m());
+        assert_eq!(put_together.clone().with_no_data(), put_together);
+    }
 }

@@ -3,7 +3,7 @@
 
 mod common;
 
-use common::{content, has_m, has_z, is_point, record, written, Random, KINDS};
+use common::{content, has_m, has_z, is_multipoint, is_point, record, set, written, Random, KINDS};
 use mbenaruul::{
     read_header, read_index_entry, read_record, read_record_header, Bytes, Error, Record,
 };
@@ -16,14 +16,16 @@ fn header_widths() -> Widths {
     [&[4, 20, 4, 4, 4][..], &[8; 8]].concat()
 }
 
-/// The kind, and a point's doubles; or the box, the counts, the starts and the other doubles.
+/// The kind, and a point's doubles; or the box, the counts, of which a multipoint has one, the starts and
+/// the other doubles.
 fn content_widths(kind: i32, parts: usize, points: usize) -> Widths {
     let measures = usize::from(has_z(kind)) + usize::from(has_m(kind));
     if is_point(kind) {
         return [vec![4], vec![8; 2 + measures]].concat();
     }
+    let numbers = if is_multipoint(kind) { 1 } else { 2 + parts };
     let doubles = 2 * points + measures * (2 + points);
-    [vec![4], vec![8; 4], vec![4; 2 + parts], vec![8; doubles]].concat()
+    [vec![4], vec![8; 4], vec![4; numbers], vec![8; doubles]].concat()
 }
 
 /// What each number of bytes that is less than all of these fields has to be refused with.
@@ -49,6 +51,7 @@ fn cut_everywhere<T>(bytes: &[u8], widths: &Widths, call: impl Fn(&[u8]) -> Resu
 fn counts(record: &Record) -> (usize, usize) {
     match record {
         Record::Parts(shape) => (shape.counts.len(), shape.points().len()),
+        Record::Multipoint(set) => (0, set.points().len()),
         _ => (0, 1),
     }
 }
@@ -93,6 +96,13 @@ fn a_body_without_the_m_that_its_kind_has() {
     cut_everywhere(&whole, &widths, |content| {
         read_record(content, Bytes(whole.len() as i64), None)
     });
+    // a MultipointM as a Multipoint; a MultipointZ as a MultipointM, whose m stands where z does
+    for (kind, alike, doubles) in [(28, 8, 4), (18, 28, 8)] {
+        let whole = set(kind, 2, &vec![0.0; doubles]);
+        cut_everywhere(&whole, &content_widths(alike, 0, 2), |content| {
+            read_record(content, Bytes(whole.len() as i64), None)
+        });
+    }
 }
 
 #[test]
@@ -110,6 +120,12 @@ fn a_wrong_value_comes_before_a_cut_behind_it() {
     let mut header = common::header(9994, -1, 3);
     header.truncate(28);
     assert_eq!(read_header(&header), Err(Error::Size { at: 24 }));
+    // a number of points below 0, and nothing behind it
+    let below = set(8, -1, &[]);
+    let read = |bytes: usize| read_record(&below[..bytes], Bytes(40), None);
+    assert_eq!(read(40), Err(Error::Size { at: 36 }));
+    let short = Error::Short { at: 36, present: 3 };
+    assert_eq!(read(39), Err(short));
     assert_eq!(
         read_header(&header[..27]),
         Err(Error::Short { at: 24, present: 3 })

@@ -2,11 +2,11 @@
 
 mod common;
 
-use common::{content, header};
+use common::{content, header, multipoint, Random};
 use mbenaruul::{
     close_points_if_not_already, is_part_closed, read_header, read_index_entry, read_record,
     read_record_header, ring_type_from_points_ordering, BBox, BBoxZ, Bytes, Header, IndexEntry,
-    Range, Record, RecordHeader, RingType, Shape, Tables, Words, Writer,
+    Multipoint, Range, Record, RecordHeader, RingType, Shape, Tables, Words, Writer,
 };
 
 #[test]
@@ -100,6 +100,47 @@ fn a_polygon_z_of_five_points_takes_92_words_or_120_with_m() {
     }
 }
 
+#[test]
+fn a_multipoint_takes_20_words_and_8_for_each_point_with_z_and_m_8_and_4_more() {
+    for n in 0..5 {
+        for (kind, words) in [(8, 20 + 8 * n), (28, 28 + 12 * n), (18, 36 + 16 * n)] {
+            let set = multipoint(kind, n, &mut Random::new(n as u64));
+            let (shp, shx) = common::written(&[Record::Multipoint(set.clone())]);
+            let entry = IndexEntry {
+                offset: Words(50),
+                content_length: Words(words as i32),
+            };
+            assert_eq!(read_index_entry(&shx[100..]), Ok(entry));
+            assert_eq!(shp.len(), 108 + 2 * words);
+            // kind, box, n, points, then z and m, each with its range
+            let mut doubles = set.xy.clone();
+            for (range, values) in [(set.z_range, &set.z), (set.m_range, &set.m)] {
+                doubles.extend(range.iter().flat_map(|range| [range.low, range.high]));
+                doubles.extend(values);
+            }
+            let mut bytes = common::set(kind, n as i32, &doubles);
+            let bbox = [set.bbox.xmin, set.bbox.ymin, set.bbox.xmax, set.bbox.ymax];
+            for (at, side) in (4..).step_by(8).zip(bbox) {
+                bytes[at..at + 8].copy_from_slice(&side.to_le_bytes());
+            }
+            assert_eq!(shp[108..], bytes);
+            // without the m of its kind it is read, each for itself
+            let whole = Bytes(bytes.len() as i64);
+            let read = |size: Bytes| read_record(&bytes[..size.0 as usize], size, Some(kind));
+            assert_eq!(read(whole), Ok(Record::Multipoint(set.clone())));
+            if common::has_m(kind) {
+                let lacks = Multipoint {
+                    m_range: None,
+                    m: Vec::new(),
+                    ..set
+                };
+                let without = Bytes(whole.0 - 2 * (8 + 4 * n as i64));
+                assert_eq!(read(without), Ok(Record::Multipoint(lacks)));
+            }
+        }
+    }
+}
+
 /// What is read of a polyline that says five points, with eight pairs behind its starts.
 fn counts_and_first_x(starts: &[i32]) -> (Vec<u32>, Vec<f64>) {
     let doubles: Vec<f64> = (0..16).map(f64::from).collect();
@@ -141,6 +182,15 @@ fn an_m_that_is_no_data_stands_as_the_least() {
         Ok(Record::Parts(shape)) => {
             assert_eq!(shape.m, [-10e38, 5.0]);
             let range = shape.m_range.unwrap();
+            assert!(range.low == -1e40 && range.high.is_nan());
+        }
+        other => panic!("{other:?}"),
+    }
+    let content = common::set(28, 2, &doubles);
+    match read_record(&content, Bytes(content.len() as i64), Some(28)) {
+        Ok(Record::Multipoint(set)) => {
+            assert_eq!(set.m, [-10e38, 5.0]);
+            let range = set.m_range.unwrap();
             assert!(range.low == -1e40 && range.high.is_nan());
         }
         other => panic!("{other:?}"),

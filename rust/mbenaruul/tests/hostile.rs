@@ -3,7 +3,7 @@
 
 mod common;
 
-use common::content;
+use common::{content, set};
 use mbenaruul::{
     check_pair, close_points_if_not_already, is_part_closed, read_header, read_index_entry,
     read_record, read_record_header, ring_type_from_points_ordering, Bytes, Error, Plan, Record,
@@ -95,6 +95,49 @@ fn counts_that_the_bytes_do_not_hold() {
 }
 
 #[test]
+fn a_number_of_points_that_the_bytes_do_not_hold() {
+    // a hundred million points, in the sizes without m and with it, and not one pair
+    let n = 100_000_000;
+    for (kind, words) in [
+        (8, vec![20 + 8 * n]),
+        (28, vec![20 + 8 * n, 28 + 12 * n]),
+        (18, vec![28 + 12 * n]),
+    ] {
+        let points = set(kind, n as i32, &[]);
+        for words in words {
+            let read = read(&points, 2 * words, None);
+            // over 2,147,483,647 bytes no size is one
+            let refused = if 2 * words <= i64::from(i32::MAX) {
+                Error::Short { at: 40, present: 0 }
+            } else {
+                Error::Size { at: 0 }
+            };
+            assert_eq!(read, Err(refused), "{kind}");
+        }
+        let most = set(kind, i32::MAX, &[]);
+        for size in [i64::MIN, 0, 40, i64::from(i32::MAX), i64::MAX] {
+            assert_eq!(read(&most, size, None), Err(Error::Size { at: 0 }));
+        }
+    }
+}
+
+#[test]
+fn the_largest_multipoint_for_its_bytes_takes_twice_their_memory() {
+    for (kind, doubles, words) in [
+        (8, 2, 20 + 80_000),
+        (28, 2, 20 + 80_000),
+        (18, 3, 28 + 120_000),
+    ] {
+        let extra = if kind == 18 { 2 } else { 0 };
+        let points = set(kind, 10_000, &vec![0.5; 10_000 * doubles + extra]);
+        match read(&points, 2 * words, None) {
+            Ok(Record::Multipoint(set)) => assert_eq!(set.xy, [0.5; 20_000]),
+            other => panic!("{other:?}"),
+        }
+    }
+}
+
+#[test]
 fn points_of_no_part_take_no_memory() {
     let none = content(3, 0, 100_000_000, &[], &[]);
     match read(&none, size(0, 100_000_000), None) {
@@ -170,6 +213,7 @@ fn every_size_and_wanted_kind_is_answered() {
             for size in sizes {
                 let _ = read(&content(kind, 1, 2, &[0], &[0.0; 4]), size, wanted);
                 let _ = read(&content(kind, i32::MAX, i32::MIN, &[], &[]), size, wanted);
+                let _ = read(&set(kind, i32::MAX, &[0.0; 4]), size, wanted);
                 let _ = read(&kind.to_le_bytes(), size, wanted);
             }
         }
@@ -192,21 +236,23 @@ fn nothing_at_all_is_answered_by_every_call() {
         Writer::new().add(&Tables::default()),
         Err(Error::NotTaken(0))
     );
-    // a polyline without a part can be written, and no pair may hold it; a Null may stand behind it
-    let mut writer = Writer::new();
-    writer
-        .add(&Tables {
-            kind: 3,
+    // a polyline without a part, and a multipoint without a point, can be written, and no pair may hold
+    // one; a Null may stand behind it
+    for kind in [3, 8, 28, 18] {
+        let mut writer = Writer::new();
+        let nothing = Tables {
+            kind,
             ..Tables::default()
-        })
-        .unwrap();
-    writer.add(&Tables::default()).unwrap();
-    let (shp, shx) = writer.finish().unwrap();
-    assert_eq!(
-        check_pair(&shp, &shx),
-        Err(Error::Fault {
-            rule: 14,
-            record: 1
-        })
-    );
+        };
+        writer.add(&nothing).unwrap();
+        writer.add(&Tables::default()).unwrap();
+        let (shp, shx) = writer.finish().unwrap();
+        assert_eq!(
+            check_pair(&shp, &shx),
+            Err(Error::Fault {
+                rule: 14,
+                record: 1
+            })
+        );
+    }
 }

@@ -4,12 +4,12 @@
 mod common;
 
 use common::{bytes, pairs, read_all};
-use mbenaruul::{BBox, Error, Plan, Range, Record, Shape, Verdict, Writer};
+use mbenaruul::{BBox, Error, Multipoint, Plan, Range, Record, Shape, Verdict, Writer};
 
 #[test]
 fn each_pair_gets_its_line() {
     let pairs = pairs();
-    assert!(pairs.len() >= 148);
+    assert!(pairs.len() >= 223);
     for (name, shp, shx, line) in pairs {
         assert_eq!(Verdict::of(&shp, &shx).to_string(), line, "{name}");
     }
@@ -40,7 +40,7 @@ fn what_is_a_pair_is_written_again_byte_for_byte_behind_the_headers() {
             again += 1;
         }
     }
-    assert!(again >= 29, "only {again} were written again");
+    assert!(again >= 39, "only {again} were written again");
 }
 
 #[test]
@@ -67,4 +67,46 @@ fn a_record_has_the_values_that_were_packed() {
         m: vec![6.0; 5],
     };
     assert_eq!(plan.record(1), Some(Ok(Record::Parts(expected))));
+}
+
+#[test]
+fn a_multipoint_has_the_values_that_were_packed() {
+    let range = Some(Range {
+        low: 0.0,
+        high: 9.0,
+    });
+    let bbox = BBox {
+        xmin: 0.0,
+        ymin: 0.0,
+        xmax: 9.0,
+        ymax: 9.0,
+    };
+    let expected = |kind: i32, z: bool, m: bool, xy: &[f64]| {
+        let points = xy.len() / 2;
+        Some(Ok(Record::Multipoint(Multipoint {
+            kind,
+            bbox,
+            z_range: if z { range } else { None },
+            m_range: if m { range } else { None },
+            xy: xy.to_vec(),
+            z: vec![5.0; if z { points } else { 0 }],
+            m: vec![6.0; if m { points } else { 0 }],
+        })))
+    };
+    let bend = [2.0, 0.0, 3.0, 1.0, 4.0, 0.0];
+    for (kind, z, m) in [(8, false, false), (28, false, true), (18, true, true)] {
+        let [shp, shx] = ["shp", "shx"].map(|end| bytes(&format!("good_{kind}.{end}")));
+        let plan = Plan::check(&shp, &shx).unwrap();
+        assert_eq!(plan.record(1), expected(kind, z, m, &bend));
+        assert_eq!(plan.record(2), expected(kind, z, m, &[1.0, 2.0]));
+    }
+    // each record for itself has m or not
+    for (kind, z) in [(28, false), (18, true)] {
+        let [shp, shx] = ["shp", "shx"].map(|end| bytes(&format!("lacks_m_{kind}.{end}")));
+        let plan = Plan::check(&shp, &shx).unwrap();
+        let segment = [0.0, 0.0, 1.0, 1.0];
+        assert_eq!(plan.record(1), expected(kind, z, false, &segment));
+        assert_eq!(plan.record(2), Some(Ok(Record::Null)));
+        assert_eq!(plan.record(3), expected(kind, z, true, &segment));
+    }
 }

@@ -3,7 +3,7 @@
 
 mod common;
 
-use common::{content, exchange, pairs, record, records, written, Random, KINDS};
+use common::{content, exchange, pairs, record, records, set, written, Random, KINDS};
 use mbenaruul::{
     check_pair, kind, BBoxZ, Cause, Error, File, Reason, Record, Tables, Verdict, Writer,
 };
@@ -191,6 +191,76 @@ fn lengths_without_m_and_with_it() {
 }
 
 #[test]
+fn a_multipoint() {
+    let said = |kind: i32, content: &[u8]| {
+        let (shp, shx) = one(kind, content);
+        let (_, reason) = refused(&shp, &shx);
+        (reason.file, reason.offset - 100, reason.to_string())
+    };
+    let is = |at: usize, text: &str| (File::Shp, at, format!("record 1: {text}"));
+    assert_eq!(
+        said(kind::MULTIPOINT, &set(kind::MULTIPOINT, 0, &[])),
+        is(44, "0 points; a Multipoint has at least 1")
+    );
+    let below = is(44, "its number of points is -7; it should not be below 0");
+    assert_eq!(
+        said(kind::MULTIPOINT_M, &set(kind::MULTIPOINT_M, -7, &[])),
+        below
+    );
+    let texts = [
+        (
+            kind::MULTIPOINT,
+            "40 words; a Multipoint of 2 points has 36",
+        ),
+        (
+            kind::MULTIPOINT_M,
+            "40 words; a MultipointM of 2 points has 36, or 52 with m",
+        ),
+        (
+            kind::MULTIPOINT_Z,
+            "40 words; a MultipointZ of 2 points has 52, or 68 with m",
+        ),
+    ];
+    for (kind, text) in texts {
+        assert_eq!(said(kind, &set(kind, 2, &[0.0; 5])), is(4, text));
+    }
+    // each double has its name, in the order of the file; the last seven are m, without which it is one too
+    let names = [
+        "x of point 1",
+        "y of point 1",
+        "x of point 2",
+        "y of point 2",
+        "x of point 3",
+        "y of point 3",
+        "Zmin of its range",
+        "Zmax of its range",
+        "z of point 1",
+        "z of point 2",
+        "z of point 3",
+        "Mmin of its range",
+        "Mmax of its range",
+        "m of point 1",
+        "m of point 2",
+        "m of point 3",
+    ];
+    for (i, name) in names.iter().enumerate() {
+        for length in [11, 16] {
+            if i < length {
+                let mut doubles = vec![0.0; length];
+                doubles[i] = f64::NEG_INFINITY;
+                let content = set(kind::MULTIPOINT_Z, 3, &doubles);
+                let text = format!("{name} is -inf; it should be finite");
+                assert_eq!(said(kind::MULTIPOINT_Z, &content), is(48 + 8 * i, &text));
+            }
+        }
+    }
+    let mut content = set(kind::MULTIPOINT, 1, &[0.0; 2]);
+    content[12..20].copy_from_slice(&f64::NAN.to_le_bytes());
+    let text = "Ymin of its box is NaN; it should be finite";
+    assert_eq!(said(kind::MULTIPOINT, &content), is(20, text));
+}
+
+#[test]
 fn coordinates_are_told_apart() {
     let open = |x: f64| {
         let doubles = [1e300, 0.0, 0.0, 1.0, 1.0, 1.0, x, 0.0];
@@ -266,14 +336,23 @@ fn mend(reason: &Reason, shp: &mut [u8], shx: &mut [u8]) -> bool {
 
 #[test]
 fn a_fault_of_other_files_has_no_reason() {
+    for kind in [5, 8, 28, 18] {
+        has_no_reason(kind);
+    }
+}
+
+fn has_no_reason(kind: i32) {
     let good = written(&[
-        record(5, &mut Random::new(1)),
+        record(kind, &mut Random::new(1)),
         Record::Null,
-        record(5, &mut Random::new(2)),
+        record(kind, &mut Random::new(2)),
         Record::Null,
     ]);
     let nothing = (Vec::new(), Vec::new());
-    let header = (common::header(9994, 50, 5), common::header(9994, 50, 5));
+    let header = (
+        common::header(9994, 50, kind),
+        common::header(9994, 50, kind),
+    );
     for rule in (0..=20).chain([u32::MAX]) {
         for record in (0..=5).chain([1 << 31, 1 << 62, usize::MAX]) {
             let fault = Error::Fault { rule, record };

@@ -3,7 +3,7 @@
 
 mod common;
 
-use common::{content, header, KINDS};
+use common::{content, header, set, KINDS};
 use mbenaruul::{
     check_pair, close_points_if_not_already, is_part_closed, read_header, read_index_entry,
     read_record, ring_type_from_points_ordering, Bytes, Error, Record, Tables, Writer,
@@ -93,6 +93,37 @@ fn size_3_of_a_record() {
 }
 
 #[test]
+fn size_3_of_a_multipoint() {
+    let at = |content: &[u8], size| read_record(content, Bytes(size), None);
+    let size = |at| Err(Error::Size { at });
+    // of two points: without m and with it, in words
+    for (kind, words) in [(8, vec![36]), (28, vec![36, 52]), (18, vec![52, 68])] {
+        let whole = set(kind, 2, &[0.0; 12]);
+        for given in 0..2 * 80 {
+            if words.contains(&(given / 2)) && given % 2 == 0 {
+                assert!(at(&whole, given).is_ok(), "{kind}: {given}");
+            } else {
+                assert_eq!(at(&whole, given), size(0), "{kind}: {given}");
+            }
+        }
+        for given in [
+            i64::MIN,
+            i64::from(i32::MIN),
+            -1,
+            i64::from(i32::MAX),
+            i64::MAX,
+        ] {
+            assert_eq!(at(&whole, given), size(0), "{kind}: {given}");
+        }
+        // the number of points is judged before the size, and stands behind the kind and the box
+        for below in [-1, i32::MIN] {
+            assert_eq!(at(&set(kind, below, &[]), 0), size(36));
+        }
+        assert_eq!(at(&set(kind, i32::MAX, &[0.0; 12]), 2 * words[0]), size(0));
+    }
+}
+
+#[test]
 fn unknown_4() {
     assert_eq!(read_header(&header(9994, 50, 2)), Err(Error::Unknown(2)));
     assert_eq!(read_header(&header(9994, 50, -1)), Err(Error::Unknown(-1)));
@@ -130,6 +161,16 @@ fn mismatch_5() {
             found: 5
         })
     );
+    // as another kind of multipoint is
+    let mut drops = Writer::new();
+    drops.add(&DROPS).unwrap();
+    for found in [8, 28, 3] {
+        let other = drops.add(&Tables {
+            kind: found,
+            ..DROPS
+        });
+        assert_eq!(other, Err(Error::Mismatch { wanted: 18, found }));
+    }
     // a Null behind a record is of no other kind, and changes nothing for those behind it
     writer.add(&Tables::default()).unwrap();
     let other = writer.add(&Tables { kind: 5, ..SEGMENT });
@@ -186,11 +227,13 @@ fn fault_8() {
 
 #[test]
 fn not_taken_9() {
-    for kind in [8, 18, 28, 31] {
-        assert!(read_header(&header(9994, 50, kind)).is_ok());
-        let refused = Err(Error::NotTaken(kind));
-        assert_eq!(read_record(&kind.to_le_bytes(), Bytes(80), None), refused);
-        assert_eq!(read_record(&segment(), SEGMENT_SIZE, Some(kind)), refused);
+    assert!(read_header(&header(9994, 50, 31)).is_ok());
+    let refused = Err(Error::NotTaken(31));
+    assert_eq!(read_record(&31i32.to_le_bytes(), Bytes(80), None), refused);
+    assert_eq!(read_record(&segment(), SEGMENT_SIZE, Some(31)), refused);
+    for kind in KINDS {
+        let read = read_record(&segment(), SEGMENT_SIZE, Some(kind));
+        assert_ne!(read, Err(Error::NotTaken(kind)));
     }
     assert_eq!(
         read_record(&segment(), SEGMENT_SIZE, Some(0)),
@@ -198,11 +241,12 @@ fn not_taken_9() {
     );
     let mut behind = Writer::new();
     behind.add(&SEGMENT).unwrap();
-    for kind in [8, 18, 28, 31] {
-        for writer in [&mut Writer::new(), &mut behind] {
-            let added = writer.add(&Tables { kind, ..SEGMENT });
-            assert_eq!(added, Err(Error::NotTaken(kind)));
-        }
+    for writer in [&mut Writer::new(), &mut behind] {
+        let patch = Tables {
+            kind: 31,
+            ..SEGMENT
+        };
+        assert_eq!(writer.add(&patch), Err(Error::NotTaken(31)));
     }
     // a Null is not taken as the first record, whatever its tables hold
     for tables in [Tables { kind: 0, ..SEGMENT }, Tables::default()] {
@@ -293,6 +337,73 @@ fn tables_10_of_a_shape() {
     ];
     for tables in &wrong {
         assert_eq!(Writer::new().add(tables), Err(Error::Tables), "{tables:?}");
+    }
+}
+
+/// Three points, with z and with m.
+const DROPS: Tables<'_> = Tables {
+    kind: 18,
+    counts: &[],
+    xy: &[0.0; 6],
+    z: &[0.0; 3],
+    m: &[0.0; 3],
+    ..SEGMENT
+};
+
+#[test]
+fn tables_10_of_a_multipoint() {
+    let with_m = Tables {
+        kind: 28,
+        z: &[],
+        ..DROPS
+    };
+    let flat = Tables {
+        kind: 8,
+        m: &[],
+        ..with_m
+    };
+    for tables in [DROPS, with_m, flat] {
+        assert_eq!(Writer::new().add(&tables), Ok(()));
+        let wrong = [
+            // part counts, whatever they sum to
+            Tables {
+                counts: &[3],
+                ..tables
+            },
+            Tables {
+                counts: &[0],
+                ..tables
+            },
+            // an odd number of coordinates; a point more, or less, than z and m have
+            Tables {
+                xy: &[0.0; 5],
+                ..tables
+            },
+            Tables {
+                xy: &[0.0; 7],
+                ..tables
+            },
+            Tables {
+                z: &[0.0; 2],
+                ..tables
+            },
+            Tables {
+                m: &[0.0; 4],
+                ..tables
+            },
+        ];
+        for tables in &wrong {
+            assert_eq!(Writer::new().add(tables), Err(Error::Tables), "{tables:?}");
+        }
+    }
+    for tables in [DROPS, with_m] {
+        for xy in [&[0.0; 4][..], &[0.0; 8], &[]] {
+            let other = Tables { xy, ..tables };
+            assert_eq!(Writer::new().add(&other), Err(Error::Tables));
+        }
+        // m is always written
+        let lacks = Tables { m: &[], ..tables };
+        assert_eq!(Writer::new().add(&lacks), Err(Error::Tables));
     }
 }
 

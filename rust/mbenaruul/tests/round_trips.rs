@@ -2,7 +2,7 @@
 
 mod common;
 
-use common::{read_all, record, totals, with_nulls, written, Random, KINDS};
+use common::{multipoint, read_all, record, totals, with_nulls, written, Random, KINDS};
 use mbenaruul::{points, read_index_entry, Plan, Record, Records, Verdict, Words};
 
 #[test]
@@ -131,6 +131,12 @@ fn points_are_pairs_of_a_shape_and_of_each_part() {
             let last = [shape.xy[shape.xy.len() - 2], shape.xy[shape.xy.len() - 1]];
             assert_eq!(shape.points().next_back(), Some(last));
         }
+    }
+    for kind in [8, 28, 18] {
+        let set = multipoint(kind, 3, &mut Random::new(kind as u64));
+        assert_eq!(set.points().len(), 3);
+        assert!(set.points().flatten().eq(set.xy.iter().copied()));
+        assert_eq!(set.points().next_back(), Some([set.xy[4], set.xy[5]]));
     }
     assert!(points(&[1.0, 2.0, 3.0]).eq([[1.0, 2.0]]));
 }

@@ -186,7 +186,7 @@ impl<'a> Place<'a> {
             11 => self.entry(),
             12 => self.record_kind(),
             13 => self.length(),
-            14 => self.parts(),
+            14 => self.counts(),
             15 => self.rings(),
             _ => self.doubles(),
         }
@@ -248,7 +248,8 @@ impl<'a> Place<'a> {
 
     fn length(&self) -> Option<Broken> {
         let (kind, words) = (self.kind, self.words()?);
-        if kind::has_parts(kind) && words >= 22 {
+        // with fewer words the counts are not there
+        if kind::has_several(kind) && words >= front_words(kind) {
             return self.counted_length(words);
         }
         let wanted = fixed_words(kind);
@@ -270,11 +271,13 @@ impl<'a> Place<'a> {
             return self.shp(44, Cause::NegativeParts { found: parts });
         }
         if points < 0 {
-            return self.shp(48, Cause::NegativePoints { found: points });
+            return self.shp(
+                self.point_count_at(),
+                Cause::NegativePoints { found: points },
+            );
         }
-        let wanted = counted_words(kind::has_z(kind), false, parts, points);
-        let with_m =
-            kind::has_m(kind).then(|| counted_words(kind::has_z(kind), true, parts, points));
+        let wanted = counted_words(kind, false, parts, points);
+        let with_m = kind::has_m(kind).then(|| counted_words(kind, true, parts, points));
         if words as u64 == wanted || Some(words as u64) == with_m {
             return None;
         }
@@ -289,14 +292,27 @@ impl<'a> Place<'a> {
         self.shp(4, cause)
     }
 
-    // ---- parts: their count, the points, and where each part starts and ends
+    // ---- the counts of parts and points, and where each part starts and ends
 
+    /// A multipoint does not say how many parts it has, which are 0.
     fn part_count(&self) -> Option<i32> {
+        if kind::is_multipoint(self.kind) {
+            return Some(0);
+        }
         little(self.shp, self.at + 44)
     }
 
     fn point_count(&self) -> Option<i32> {
-        little(self.shp, self.at + 48)
+        little(self.shp, self.at + self.point_count_at())
+    }
+
+    /// Behind the count of parts, where there is one.
+    fn point_count_at(&self) -> usize {
+        if kind::is_multipoint(self.kind) {
+            44
+        } else {
+            48
+        }
     }
 
     fn start_of(&self, part: usize) -> Option<i32> {
@@ -317,8 +333,11 @@ impl<'a> Place<'a> {
         Some((0..parts).map_while(move |part| Some((self.start_of(part)?, end(part)?))))
     }
 
-    fn parts(&self) -> Option<Broken> {
+    fn counts(&self) -> Option<Broken> {
         let kind = self.kind;
+        if kind::is_multipoint(kind) && self.point_count()? == 0 {
+            return self.shp(self.point_count_at(), Cause::NoPoint { kind });
+        }
         if !kind::has_parts(kind) {
             return None;
         }
@@ -344,9 +363,10 @@ impl<'a> Place<'a> {
         self.shp(52 + 4 * (part - 1), cause)
     }
 
-    /// Where the points stand, behind the starts.
+    /// Where the points stand, behind the counts and the starts.
     fn points_at(&self) -> Option<usize> {
-        Some(self.at + 52 + 4 * usize::try_from(self.part_count()?).ok()?)
+        let starts = 4 * usize::try_from(self.part_count()?).ok()?;
+        Some(self.at + self.point_count_at() + 4 + starts)
     }
 
     fn rings(&self) -> Option<Broken> {
@@ -375,8 +395,8 @@ impl<'a> Place<'a> {
             return None;
         }
         let end = self.at + 8 + usize::try_from(in_bytes(self.words()?)).ok()?;
-        let parted = kind::has_parts(self.kind);
-        let fields: Box<dyn Iterator<Item = (usize, Double)>> = if parted {
+        let several = kind::has_several(self.kind);
+        let fields: Box<dyn Iterator<Item = (usize, Double)>> = if several {
             let sides = (0..4).map(|i| (self.at + 12 + 8 * i, Double::Box(SIDES[i])));
             Box::new(sides.chain(self.point_doubles()?))
         } else {
@@ -397,8 +417,8 @@ impl<'a> Place<'a> {
         None
     }
 
-    /// Behind the starts: x and y of each point; then, for z and for m, a range and a value for each
-    /// point. m may lack, which shows in where the content ends.
+    /// Behind the counts and the starts: x and y of each point; then, for z and for m, a range and a
+    /// value for each point. m may lack, which shows in where the content ends.
     fn point_doubles(&self) -> Option<impl Iterator<Item = (usize, Double)>> {
         let from = self.points_at()?;
         let n = usize::try_from(self.point_count()?).ok()?;
@@ -424,19 +444,29 @@ fn measures(kind: i32) -> impl Iterator<Item = char> {
     z.into_iter().chain(m)
 }
 
-/// The words of a point or of nothing, and those that a shape with parts has at least.
+/// The words of a point or of nothing, and those that a shape with parts or a multipoint has at least.
 fn fixed_words(kind: i32) -> u64 {
     match kind {
         kind::NULL => 2,
-        _ if kind::has_parts(kind) => counted_words(kind::has_z(kind), false, 0, 0),
+        _ if kind::has_several(kind) => counted_words(kind, false, 0, 0),
         _ => 10 + 4 * measures(kind).count() as u64,
     }
 }
 
-/// The words of a shape with parts: the kind's field, a box, two counts, a start for each part and
-/// x and y for each point; with z, and with m, a range and a value for each point.
-fn counted_words(z: bool, m: bool, parts: i32, points: i32) -> u64 {
+/// The words of a shape with parts or of a multipoint up to its counts: the kind's field, a box, and two
+/// counts or one.
+fn front_words(kind: i32) -> i32 {
+    if kind::is_multipoint(kind) {
+        20
+    } else {
+        22
+    }
+}
+
+/// All its words: behind the counts stand a start for each part and x and y for each point; with z, and
+/// with m, a range and a value for each point.
+fn counted_words(kind: i32, m: bool, parts: i32, points: i32) -> u64 {
     let (parts, points) = (parts as u64, points as u64);
     let measure = |there: bool| if there { 8 + 4 * points } else { 0 };
-    22 + 2 * parts + 8 * points + measure(z) + measure(m)
+    front_words(kind) as u64 + 2 * parts + 8 * points + measure(kind::has_z(kind)) + measure(m)
 }

@@ -140,7 +140,7 @@ pub enum Cause {
         kind: i32,
         /// What the record's header says, in words.
         words: i32,
-        /// What the kind has, or at least has where it has parts, in words.
+        /// What the kind has, or at least has where it has parts or is a multipoint, in words.
         wanted: u64,
     },
     /// P13: the number of parts is negative.
@@ -153,13 +153,14 @@ pub enum Cause {
         /// The number.
         found: i32,
     },
-    /// P13: a shape of so many parts and points has another length.
+    /// P13: a shape of so many parts and points, or a multipoint of so many points, has another
+    /// length.
     CountedLength {
         /// The record's kind.
         kind: i32,
         /// What the record's header says, in words.
         words: i32,
-        /// The number of parts.
+        /// The number of parts; 0 for a multipoint.
         parts: i32,
         /// The number of points.
         points: i32,
@@ -170,6 +171,11 @@ pub enum Cause {
     },
     /// P14: the shape has no part.
     NoPart {
+        /// The record's kind.
+        kind: i32,
+    },
+    /// P14: the multipoint has no point.
+    NoPoint {
         /// The record's kind.
         kind: i32,
     },

@@ -89,7 +89,7 @@ impl Reason {
                 words,
                 wanted,
             } => {
-                let least = if kind::has_parts(kind) {
+                let least = if kind::has_several(kind) {
                     "at least "
                 } else {
                     ""
@@ -114,12 +114,18 @@ impl Reason {
                 wanted,
                 with_m,
             } => {
-                let shape = format!("{} of {}", name(kind), count(parts, "part"));
+                let parts = if kind::has_parts(kind) {
+                    format!("{} and ", count(parts, "part"))
+                } else {
+                    String::new()
+                };
                 let with_m = with_m.map_or(String::new(), |words| format!(", or {words} with m"));
                 let (words, points) = (count(words, "word"), count(points, "point"));
-                format!("{words}; a {shape} and {points} has {wanted}{with_m}")
+                let name = name(kind);
+                format!("{words}; a {name} of {parts}{points} has {wanted}{with_m}")
             }
             Cause::NoPart { kind } => format!("0 parts; a {} has at least 1", name(kind)),
+            Cause::NoPoint { kind } => format!("0 points; a {} has at least 1", name(kind)),
             Cause::FirstStart { found } => {
                 format!("its first part starts at point {found}; it should start at point 0")
             }

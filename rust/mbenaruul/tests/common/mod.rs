@@ -4,23 +4,27 @@
 // Each test file is a program of its own and uses a part of this.
 #![allow(dead_code)]
 
-use mbenaruul::{BBox, Plan, Range, Record, Shape, Totals, Writer};
+use mbenaruul::{BBox, Multipoint, Plan, Range, Record, Shape, Totals, Writer};
 use std::fs;
 use std::path::PathBuf;
 
-/// The nine kinds of a file that can be written.
-pub const KINDS: [i32; 9] = [1, 21, 11, 3, 23, 13, 5, 25, 15];
+/// The twelve kinds of a file that can be written.
+pub const KINDS: [i32; 12] = [1, 21, 11, 3, 23, 13, 5, 25, 15, 8, 28, 18];
 
 pub fn has_z(kind: i32) -> bool {
-    [11, 13, 15].contains(&kind)
+    [11, 13, 15, 18].contains(&kind)
 }
 
 pub fn has_m(kind: i32) -> bool {
-    [21, 23, 25].contains(&kind) || has_z(kind)
+    [21, 23, 25, 28].contains(&kind) || has_z(kind)
 }
 
 pub fn is_point(kind: i32) -> bool {
     [1, 21, 11].contains(&kind)
+}
+
+pub fn is_multipoint(kind: i32) -> bool {
+    [8, 28, 18].contains(&kind)
 }
 
 pub fn is_polygon(kind: i32) -> bool {
@@ -60,6 +64,15 @@ impl Random {
         (0..n).map(|_| self.double()).collect()
     }
 
+    pub fn bbox(&mut self) -> BBox {
+        BBox {
+            xmin: self.double(),
+            ymin: self.double(),
+            xmax: self.double(),
+            ymax: self.double(),
+        }
+    }
+
     pub fn range(&mut self) -> Range {
         Range {
             low: self.double(),
@@ -77,6 +90,9 @@ pub fn record(kind: i32, random: &mut Random) -> Record {
             z: has_z(kind).then(|| random.double()),
             m: has_m(kind).then(|| random.double()),
         }
+    } else if is_multipoint(kind) {
+        let points = 1 + random.below(6);
+        Record::Multipoint(multipoint(kind, points, random))
     } else {
         Record::Parts(shape(kind, random))
     }
@@ -97,6 +113,19 @@ pub fn with_nulls(records: &[Record]) -> Vec<Record> {
     records.iter().flat_map(and_null).collect()
 }
 
+/// A multipoint of so many points.
+pub fn multipoint(kind: i32, points: usize, random: &mut Random) -> Multipoint {
+    Multipoint {
+        kind,
+        bbox: random.bbox(),
+        z_range: has_z(kind).then(|| random.range()),
+        m_range: has_m(kind).then(|| random.range()),
+        xy: random.doubles(2 * points),
+        z: random.doubles(if has_z(kind) { points } else { 0 }),
+        m: random.doubles(if has_m(kind) { points } else { 0 }),
+    }
+}
+
 fn shape(kind: i32, random: &mut Random) -> Shape {
     let mut counts = Vec::new();
     let mut xy = Vec::new();
@@ -113,12 +142,7 @@ fn shape(kind: i32, random: &mut Random) -> Shape {
     let points = xy.len() / 2;
     Shape {
         kind,
-        bbox: BBox {
-            xmin: random.double(),
-            ymin: random.double(),
-            xmax: random.double(),
-            ymax: random.double(),
-        },
+        bbox: random.bbox(),
         z_range: has_z(kind).then(|| random.range()),
         m_range: has_m(kind).then(|| random.range()),
         counts,
@@ -141,6 +165,7 @@ pub fn totals(records: &[Record]) -> Totals {
         match record {
             Record::Null => {}
             Record::Point { .. } => totals.points += 1,
+            Record::Multipoint(set) => totals.points += set.points().len(),
             Record::Parts(shape) => {
                 totals.parts += shape.counts.len();
                 totals.points += shape.points().len();
@@ -186,11 +211,20 @@ pub fn written(records: &[Record]) -> (Vec<u8>, Vec<u8>) {
 
 /// A parts record's content, field by field: kind, box, counts, starts, then the doubles.
 pub fn content(kind: i32, p: i32, n: i32, starts: &[i32], doubles: &[f64]) -> Vec<u8> {
+    fields(kind, &[&[p, n], starts].concat(), doubles)
+}
+
+/// A multipoint's content: kind, box, the number of points, then the doubles.
+pub fn set(kind: i32, n: i32, doubles: &[f64]) -> Vec<u8> {
+    fields(kind, &[n], doubles)
+}
+
+fn fields(kind: i32, numbers: &[i32], doubles: &[f64]) -> Vec<u8> {
     let mut bytes = kind.to_le_bytes().to_vec();
     for side in [1.0f64, 2.0, 3.0, 4.0] {
         bytes.extend(side.to_le_bytes());
     }
-    for number in [p, n].iter().chain(starts) {
+    for number in numbers {
         bytes.extend(number.to_le_bytes());
     }
     for double in doubles {
