@@ -7,8 +7,8 @@
  * Nothing is kept between calls, allocated or shared: any number of threads may call at once, where none writes to what another was lent.
  *
  * Empty stores ask for the room. Room is judged last: lent less than it needs, or nothing at all, a call refuses with 6 and says what it needs,
- * and with so much it then succeeds. For p parts and n points, counts takes p, xy 2n, z and m n each, where the record has them; of an output
- * the bytes are told, start included. rust/c/write.c asks so, both when it writes and when it reads.
+ * and with so much it then succeeds. For p parts and n points, counts takes p, xy 2n, z and m n each, where the record has them; a multipoint has
+ * 0 parts, and leaves counts as it is. Of an output the bytes are told, start included. rust/c/write.c asks so, both when it writes and when it reads.
  *
  * mbenaruul_ring_type_from_points_ordering computes with doubles, and assumes the processor's default floating-point mode: round to nearest,
  * denormal numbers kept (no flush-to-zero, no denormals-are-zero, which -ffast-math may switch on). No other call depends on the mode: whether
@@ -26,7 +26,8 @@
  *    7  long: a count over 2,147,483,647, or a file over that many words
  *    8  fault: the pair checker's no                first: the rule (11 for P11), second: the record's number, 0 for the headers;
  *       docs/RULES.md says each rule in plain words and what usually breaks it
- *    9  not taken: a kind that is not read or written   first: the kind's code; 0, Null, where it is wanted or would be the first record
+ *    9  not taken: a kind that is not read or written   first: the kind's code: 31, Multipatch; 0, Null, where it is wanted or would be the first
+ *       record
  *   10  tables: lent tables disagree in length, or a Null record comes with one that is not empty
  * Values that a refusal does not have are 0. A code that is below 0 stands as its 32 bits: (int32_t)first.
  */
@@ -64,7 +65,8 @@ typedef struct { double x, y, z, m; } mbenaruul_point;
 typedef struct { double xmin, ymin, xmax, ymax; } mbenaruul_box;
 typedef struct { double low, high; } mbenaruul_range;
 typedef struct { mbenaruul_box bbox; mbenaruul_range z_range, m_range; size_t parts, points; } mbenaruul_body;
-/* form: 0 Null, 1 a point, 2 a shape with parts; has_m: 1 where a shape with parts has m */
+/* form: 0 Null, 1 a point, 2 a shape with parts, 3 a multipoint; has_m: 1 where a shape with parts or a multipoint has m; point: of form 1; body: of
+ * forms 2 and 3, and parts of it is 0 for a multipoint. What a form does not have is 0. */
 typedef struct {
     mbenaruul_refusal refusal;
     int32_t code;
@@ -92,10 +94,13 @@ mbenaruul_pair_checked mbenaruul_check_pair(const uint8_t *shp, size_t shp_n, co
  *     to that start plus the bytes of the first, and so on.
  *   - the .shx: a header of 100 bytes, then the 8 bytes of each record's entry, behind those of the last one.
  *   - when all records are added, the two headers that mbenaruul_finish gives go in front.
- * The first record gives the file its kind: 1, 3 or 5, 21, 23 or 25 with m, 11, 13 or 15 with z and m; 0 is refused with 9. Each further record has
- * that kind, or is a Null record, which is an empty place among them: code 0 and four empty tables. A Null record takes 12 bytes, and kind and box
- * of the state stay as they were; the box that comes with it plays no part.
- * Of tables only the lengths are judged: a ring that is open, NaN, a part of one point, a box that is not the true one are written as given. */
+ * The first record gives the file its kind: 1, 3, 5 or 8, 21, 23, 25 or 28 with m, 11, 13, 15 or 18 with z and m; 0 is refused with 9. Each further
+ * record has that kind, or is a Null record, which is an empty place among them: code 0 and four empty tables. A Null record takes 12 bytes, and kind
+ * and box of the state stay as they were; the box that comes with it plays no part.
+ * counts has the number of points of each part, and they sum to n; xy has 2n doubles, z and m n each where the kind has them, else 0. A point (1, 21,
+ * 11) has no counts and n is 1; a multipoint (8, 28, 18) has no counts, and n is half of what xy has, 0 too.
+ * Of tables only the lengths are judged: a ring that is open, NaN, a part of one point, a multipoint of none, a box that is not the true one are
+ * written as given. */
 typedef struct { int32_t words, number, kind; mbenaruul_bbox bbox; } mbenaruul_state;
 mbenaruul_state mbenaruul_new(void);
 /* The record is put into out from start on, and its entry into the first 8 bytes of entry; no other byte is touched. bytes: those of the record.

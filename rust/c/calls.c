@@ -96,7 +96,8 @@ static void records(const uint8_t *content) {
     r = mbenaruul_read_record_of(5, content, 80, 80, c, 2, p, 5, zs, 1, ms, 1);
     CHECK(is(r.refusal, 5, 5, 3) && r.code == 0 && r.form == 0);
     CHECK(is(mbenaruul_read_record_of(-1, content, 80, 80, c, 2, p, 5, zs, 1, ms, 1).refusal, 4, 0xffffffff, 0));
-    CHECK(is(mbenaruul_read_record_of(8, content, 80, 80, c, 2, p, 5, zs, 1, ms, 1).refusal, 9, 8, 0));
+    CHECK(is(mbenaruul_read_record_of(31, content, 80, 80, c, 2, p, 5, zs, 1, ms, 1).refusal, 9, 31, 0));
+    CHECK(is(mbenaruul_read_record_of(8, content, 80, 80, c, 2, p, 5, zs, 1, ms, 1).refusal, 5, 8, 3));
     CHECK(is(mbenaruul_read_record(content, 80, INT64_MIN, c, 2, p, 5, zs, 1, ms, 1).refusal, 3, 0, 0));
     CHECK(is(mbenaruul_read_record(content, 80, (INT64_C(1) << 32) + 80, c, 2, p, 5, zs, 1, ms, 1).refusal, 3, 0, 0));
     memcpy(point + 4, values, 32);
@@ -265,6 +266,76 @@ static void every_field(void) {
     CHECK(memcmp(p, xy, sizeof p) == 0 && memcmp(zs, z, sizeof zs) == 0 && memcmp(ms, m, sizeof ms) == 0);
 }
 
+/* A multipoint of two points, which is written both ways, is a pair, and is read back. */
+static void multipoint(int32_t code, size_t z_n, size_t m_n, int32_t words) {
+    uint8_t shp[100 + 8 + 136], again[100 + 8 + 136], shx[108], entry[8];
+    size_t size = 2 * (size_t)words, all = 108 + size;
+    uint32_t c[] = {9};
+    double p[] = {9, 9, 9, 9, 9}, zs[] = {9, 9, 9}, ms[] = {9, 9, 9};
+    const mbenaruul_bbox none = {0, 0, 0, 0, 0, 0, 0, 0};
+    mbenaruul_bbox expected = box;
+    mbenaruul_state s = mbenaruul_new(), lent = s;
+    mbenaruul_added a = mbenaruul_add_record(s, code, box, NULL, 0, xy, 4, z, z_n, m, m_n, shp, all, 100, shx + 100, 8);
+    mbenaruul_written w = mbenaruul_write_shape(&lent, code, box, NULL, 0, xy, 4, z, z_n, m, m_n, again, all, 100, entry, 8);
+    mbenaruul_finished f = mbenaruul_finish(a.state);
+    mbenaruul_pair_checked checked;
+    mbenaruul_record_read r;
+
+    if (z_n == 0)
+        expected.zmin = expected.zmax = 0;
+    if (m_n == 0)
+        expected.mmin = expected.mmax = 0;
+    CHECK(is(a.refusal, 0, 0, 0) && a.bytes == 8 + size && is(w.refusal, 0, 0, 0) && w.bytes == 8 + size && same_state(a.state, lent));
+    CHECK(memcmp(shp + 100, again + 100, all - 100) == 0 && memcmp(shx + 100, entry, 8) == 0);
+    CHECK(a.state.words == 54 + words && a.state.number == 2 && a.state.kind == code && memcmp(&a.state.bbox, &expected, sizeof expected) == 0);
+    CHECK(shp[108] == code && shp[144] == 2 && shp[145] == 0 && shp[146] == 0 && shp[147] == 0);
+    memcpy(shp, f.shp, 100);
+    memcpy(shx, f.shx, 100);
+    checked = mbenaruul_check_pair(shp, all, shx, 108);
+    CHECK(is(checked.refusal, 0, 0, 0) && checked.totals.records == 1 && checked.totals.parts == 0 && checked.totals.points == 2);
+
+    /* it asks for no parts and two points, and takes just so much */
+    r = mbenaruul_read_record(shp + 108, size, (int64_t)size, NULL, 0, NULL, 0, NULL, 0, NULL, 0);
+    CHECK(is(r.refusal, 6, 0, 2) && r.code == 0 && r.form == 0 && r.body.points == 0);
+    r = mbenaruul_read_record(shp + 108, size, (int64_t)size, NULL, 0, p, 4, zs, z_n, ms, m_n);
+    CHECK(is(r.refusal, 0, 0, 0) && r.code == code && r.form == 3 && r.has_m == (m_n > 0));
+    CHECK(r.body.parts == 0 && r.body.points == 2 && r.point.x == 0 && r.point.m == 0);
+    CHECK(r.body.bbox.xmin == 1 && r.body.bbox.ymin == 2 && r.body.bbox.xmax == 3 && r.body.bbox.ymax == 4);
+    CHECK(r.body.z_range.low == expected.zmin && r.body.z_range.high == expected.zmax);
+    CHECK(r.body.m_range.low == expected.mmin && r.body.m_range.high == expected.mmax);
+    CHECK(memcmp(p, xy, sizeof xy) == 0 && p[4] == 9 && memcmp(zs, z, z_n * sizeof *z) == 0 && memcmp(ms, m, m_n * sizeof *m) == 0);
+    r = mbenaruul_read_record_of(code, shp + 108, size, (int64_t)size, c, 1, p, 5, zs, 3, ms, 3);
+    CHECK(is(r.refusal, 0, 0, 0) && r.form == 3 && c[0] == 9 && zs[2] == 9 && ms[2] == 9);
+    CHECK(is(mbenaruul_read_record_of(3, shp + 108, size, (int64_t)size, c, 1, p, 5, zs, 3, ms, 3).refusal, 5, 3, (uint64_t)code));
+    CHECK(is(mbenaruul_read_record(shp + 108, size - 1, (int64_t)size, c, 1, p, 5, zs, 3, ms, 3).refusal, 1, size - 8, 7));
+    CHECK(is(mbenaruul_read_record(shp + 108, 38, (int64_t)size, c, 1, p, 5, zs, 3, ms, 3).refusal, 1, 36, 2));
+    CHECK(is(mbenaruul_read_record(shp + 108, size, (int64_t)size + 2, c, 1, p, 5, zs, 3, ms, 3).refusal, 3, 0, 0));
+    if (m_n > 0) { /* m may lack, which the size tells */
+        r = mbenaruul_read_record(shp + 108, size - 32, (int64_t)size - 32, c, 1, p, 5, zs, 3, ms, 3);
+        CHECK(is(r.refusal, 0, 0, 0) && r.form == 3 && r.has_m == 0 && r.body.m_range.low == 0 && r.body.m_range.high == 0);
+    }
+
+    /* part counts, an odd number of coordinates, and a value too many are 10 */
+    CHECK(is(mbenaruul_add_record(s, code, box, counts, 1, xy, 4, z, z_n, m, m_n, shp, all, 100, entry, 8).refusal, 10, 0, 0));
+    CHECK(is(mbenaruul_add_record(s, code, box, NULL, 0, xy, 3, z, z_n, m, m_n, shp, all, 100, entry, 8).refusal, 10, 0, 0));
+    CHECK(is(mbenaruul_add_record(s, code, box, NULL, 0, xy, 4, z, z_n > 0 ? 1 : 2, m, m_n, shp, all, 100, entry, 8).refusal, 10, 0, 0));
+    CHECK(is(mbenaruul_add_record(s, code, box, NULL, 0, xy, 4, z, z_n, m, m_n > 0 ? 0 : 2, shp, all, 100, entry, 8).refusal, 10, 0, 0));
+    CHECK(is(mbenaruul_add_record(s, code, box, NULL, 0, xy, 4, z, z_n, m, m_n, NULL, 0, 100, NULL, 0).refusal, 6, all, 0));
+
+    /* one of no point is written, and read, and no pair has it: P14; one with a number below 0 is not read */
+    a = mbenaruul_add_record(s, code, none, NULL, 0, NULL, 0, NULL, 0, NULL, 0, shp, sizeof shp, 100, shx + 100, 8);
+    f = mbenaruul_finish(a.state);
+    memcpy(shp, f.shp, 100);
+    memcpy(shx, f.shx, 100);
+    CHECK(is(a.refusal, 0, 0, 0) && a.bytes == 8 + size - 32 - 8 * z_n - 8 * m_n);
+    r = mbenaruul_read_record(shp + 108, a.bytes - 8, (int64_t)a.bytes - 8, NULL, 0, NULL, 0, NULL, 0, NULL, 0);
+    CHECK(is(r.refusal, 0, 0, 0) && r.form == 3 && r.body.parts == 0 && r.body.points == 0);
+    CHECK(is(mbenaruul_check_pair(shp, 100 + a.bytes, shx, 108).refusal, 8, 14, 1));
+    memset(shp + 144, 0xff, 4);
+    CHECK(is(mbenaruul_check_pair(shp, 100 + a.bytes, shx, 108).refusal, 8, 13, 1));
+    CHECK(is(mbenaruul_read_record(shp + 108, a.bytes - 8, (int64_t)a.bytes - 8, NULL, 0, NULL, 0, NULL, 0, NULL, 0).refusal, 3, 36, 0));
+}
+
 /* A length of 0 comes with NULL, in every slice of every call that reads. */
 static void null_read(const uint8_t *shp, const uint8_t *content) {
     static const uint8_t null[4], no_points[44] = {3};
@@ -348,6 +419,9 @@ int main(void) {
     empty_place(s, shp, shx);
     write_both_ways();
     every_field();
+    multipoint(8, 0, 0, 36);
+    multipoint(28, 0, 2, 52);
+    multipoint(18, 2, 2, 68);
     null_read(shp, shp + 108);
     null_written();
     rings();

@@ -119,7 +119,8 @@ static void boxes(void) {
     CHECK(has_bits(s.bbox.ymin, MINUS_LEAST) && has_bits(s.bbox.ymax, ZERO));
 }
 
-static void measures(void) {
+/* Two points of a kind with m, in so many parts, with a content of so many bytes. */
+static void measures_of(const char *name, int32_t code, size_t parts, size_t size) {
     uint8_t out[8 + 112], entry[8];
     const uint32_t counts[] = {2};
     const double xy[] = {0, 0, 1, 1};
@@ -127,12 +128,17 @@ static void measures(void) {
     uint32_t c[1];
     double m[2], p[4], found[2];
 
-    of = "m";
+    of = name;
     m[0] = double_of(LEAST);
     m[1] = double_of(MINUS_LEAST);
-    mbenaruul_add_record(mbenaruul_new(), 23, box, counts, 1, xy, 4, NULL, 0, m, 2, out, sizeof out, 0, entry, 8);
-    CHECK(mbenaruul_read_record(out + 8, 112, 112, c, 1, p, 4, NULL, 0, found, 2).refusal.number == 0);
+    mbenaruul_add_record(mbenaruul_new(), code, box, counts, parts, xy, 4, NULL, 0, m, 2, out, sizeof out, 0, entry, 8);
+    CHECK(mbenaruul_read_record(out + 8, size, (int64_t)size, c, 1, p, 4, NULL, 0, found, 2).refusal.number == 0);
     CHECK(has_bits(found[0], LEAST) && has_bits(found[1], MINUS_LEAST));
+}
+
+static void measures(void) {
+    measures_of("m of a polyline", 23, 1, 112);
+    measures_of("m of a multipoint", 28, 0, 104);
 }
 
 int main(int argc, char **argv) {
