@@ -2,7 +2,7 @@
 //!
 //! Where the two differ on purpose the answer is ours, by the name that docs/DIFFERENCES.md has for it: `nan-payload` (a NaN that is read or written
 //! is 7FF8000000000000) and `signalling-m` (an m that is a signalling NaN becomes -10e38). How often each was used is counted.
-use crate::values::{double_at, has_z_m, int_at, is_point, NAN};
+use crate::values::{double_at, has_z_m, int_at, is_multipoint, is_point, z_m_multipoint, NAN};
 use shapefile::driver::{self, Body, Header, Refusal, Run, Shape};
 
 /// The crate may reserve so much for a body; what would take more is left out.
@@ -107,11 +107,13 @@ fn part(s: &[u8], a: &mut Answer) {
     }
 }
 
-fn body(s: &[u8], z: bool, m: bool, a: &mut Answer) -> bool {
-    if driver::reserves(s, z, m) > RESERVED {
+/// A body with parts, or of a multipoint, which has none.
+fn body(s: &[u8], z: bool, m: bool, multipoint: bool, a: &mut Answer) -> bool {
+    let reserves = if multipoint { driver::multipoint_reserves(s) } else { driver::reserves(s, z, m) };
+    if reserves > RESERVED {
         return false;
     }
-    let b = match driver::read_body(s, z, m) {
+    let b = match if multipoint { driver::read_multipoint(s, z, m) } else { driver::read_body(s, z, m) } {
         Ok(b) => b,
         Err(e) => {
             a.refusal(e);
@@ -130,7 +132,8 @@ fn body(s: &[u8], z: bool, m: bool, a: &mut Answer) -> bool {
     b.counts.iter().for_each(|&c| a.word(c as u32));
     a.doubles(&b.xy);
     a.doubles(&zs.values);
-    let ms_at = 40 + 4 * p + 16 * n + if z { 16 + 8 * n } else { 0 } + 16;
+    let front = if multipoint { 36 } else { 40 + 4 * p };
+    let ms_at = front + 16 * n + if z { 16 + 8 * n } else { 0 } + 16;
     for (i, &v) in ms.values.iter().enumerate() {
         let signalling = v.is_nan() && driver::is_signalling(double_at(s, ms_at + 8 * i));
         a.1.signalling_m += signalling as u64;
@@ -170,10 +173,15 @@ fn tables(s: &[u8], at: &mut usize, z: bool, m: bool) -> Body {
     }
 }
 
-fn body_bytes(s: &[u8], z: bool, m: bool, a: &mut Answer) {
+fn body_bytes(s: &[u8], z: bool, m: bool, multipoint: bool, a: &mut Answer) {
     let body = tables(s, &mut 0, z, m);
-    let bytes = driver::write_body(&body).expect("tables that agree");
-    a.written(&bytes, 32..40 + 4 * body.counts.len());
+    let bytes = if multipoint { driver::write_multipoint(&body) } else { driver::write_body(&body) };
+    a.written(&bytes.expect("tables that agree"), ints_in(&body, multipoint));
+}
+
+/// Where the counts and the starts of a body stand.
+fn ints_in(body: &Body, multipoint: bool) -> std::ops::Range<usize> {
+    if multipoint { 32..36 } else { 32..40 + 4 * body.counts.len() }
 }
 
 /// The first 36 bytes of both headers, and all that follows the headers.
@@ -187,7 +195,7 @@ fn files(s: &[u8], a: &mut Answer) {
     for shape in &shapes {
         let words = i32::from_be_bytes(files.shp[at + 4..at + 8].try_into().unwrap()) as usize;
         a.0.extend(&files.shp[at..at + 12]);
-        let ints = if is_point(kind) { 0..0 } else { 32..40 + 4 * shape.body.counts.len() };
+        let ints = if is_point(kind) { 0..0 } else { ints_in(&shape.body, is_multipoint(kind)) };
         a.written(&files.shp[at + 12..at + 8 + 2 * words], ints);
         at += 8 + 2 * words;
     }
@@ -198,7 +206,7 @@ fn files(s: &[u8], a: &mut Answer) {
 
 /// False where the input is left out.
 pub fn answer(part_number: usize, flags: u8, s: &[u8], a: &mut Answer) -> bool {
-    let (z, m) = (flags % 2 == 1, flags / 2 == 1);
+    let (z, m, multipoint) = z_m_multipoint(flags);
     match part_number {
         1 => header(s, a),
         2 => header_bytes(s, a),
@@ -208,9 +216,9 @@ pub fn answer(part_number: usize, flags: u8, s: &[u8], a: &mut Answer) -> bool {
             a.0.extend(driver::write_index_entry(int_at(s, 0), int_at(s, 4)));
         }
         5 => part(s, a),
-        6 => return body(s, z, m, a),
+        6 => return body(s, z, m, multipoint, a),
         7 => rings(s, a),
-        8 => body_bytes(s, z, m, a),
+        8 => body_bytes(s, z, m, multipoint, a),
         9 => files(s, a),
         _ => {
             a.double(driver::f64_min(double_at(s, 0), double_at(s, 8)));

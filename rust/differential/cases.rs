@@ -10,7 +10,7 @@
 //! PART is one of `PARTS`. The stream goes to standard output, and a line for each part to standard error. All numbers are little-endian.
 //!
 //! The stream is blocks, each a length (u32, at most a mebibyte) and whole cases, and ends with a block of length 0. A case is the length of what
-//! follows (u32), the part's number (u8), flags (u8: 1 for z, 2 for m), two bytes of nothing, the input's length (u32), the input, and the answer
+//! follows (u32), the part's number (u8), flags (u8: 1 for z, 2 for m, 4 for a multipoint), two bytes of nothing, the input's length (u32), the input, and the answer
 //! that is expected. crates/replay reads it.
 mod answers;
 mod chance;
@@ -22,6 +22,7 @@ use chance::Random;
 use lists::{examples, list};
 use std::collections::HashSet;
 use std::io::Write;
+use values::{int_at, is_multipoint};
 
 const PARTS: [&str; 10] =
     ["header", "header-bytes", "record-header", "entries", "part", "body", "rings", "body-bytes", "files", "min-max"];
@@ -99,7 +100,8 @@ impl Stream {
         self.finish(part_number, count, seed);
     }
 
-    /// The examples; of the small inputs of the list those whose answers differ in length or at the front, and of these about 30; then 25 by chance.
+    /// The examples; of the small inputs of the list those whose answers differ in length or at the front, files also in kind, and of these about 30, and
+    /// about 15 multipoints; then 25 by chance.
     fn sample(&mut self, part_number: usize) {
         examples(part_number, &mut |flags, input| self.put(part_number, flags, &input));
         let (mut seen, mut chosen) = (HashSet::new(), Vec::new());
@@ -108,16 +110,25 @@ impl Stream {
             if input.len() < 2000 && answer(part_number, flags, &input, &mut a) {
                 let size = a.0.len();
                 a.0.truncate(13);
-                if seen.insert((flags, size, a.0)) {
+                if seen.insert((flags, file_kind(part_number, &input), size, a.0)) {
                     chosen.push((flags, input));
                 }
             }
         });
-        let every = (chosen.len() + 29) / 30; // rounded up
-        chosen.iter().step_by(every).for_each(|(flags, input)| self.put(part_number, *flags, input));
+        let is_set = |(flags, input): &(u8, Vec<u8>)| flags / 4 == 1 || file_kind(part_number, input).map_or(false, is_multipoint);
+        let (sets, others): (Vec<_>, Vec<_>) = chosen.into_iter().partition(is_set);
+        for (some, most) in [(others, 30), (sets, 15)] {
+            let every = ((some.len() + most - 1) / most).max(1); // rounded up
+            some.iter().step_by(every).for_each(|(flags, input)| self.put(part_number, *flags, input));
+        }
         self.finish(part_number, 25, 1);
         self.flush();
     }
+}
+
+/// The kind of the file that a case writes.
+fn file_kind(part_number: usize, input: &[u8]) -> Option<i32> {
+    (PARTS[part_number - 1] == "files").then(|| int_at(input, 0))
 }
 
 fn main() {

@@ -1,6 +1,6 @@
 //! Inputs by chance: good ones, ones near a limit, and damaged ones.
 use crate::lists::{file_of, header_of, points_in, LAYOUTS};
-use crate::values::{doubles, has_z_m, ints, is_point, DOUBLES, LIMITS, WRITTEN};
+use crate::values::{doubles, flags_of, has_z_m, ints, is_multipoint, is_point, z_m_multipoint, DOUBLES, LIMITS, WRITTEN};
 
 pub struct Random(pub u64);
 
@@ -95,6 +95,16 @@ impl Random {
         self.damaged(s)
     }
 
+    /// A multipoint, with a few doubles more.
+    fn set(&mut self, z: bool, m: bool) -> Vec<u8> {
+        let n = self.below(9) as i32;
+        let mut s = self.doubles(4);
+        s.extend(ints(&[if self.below(9) == 0 { self.int() } else { n }]));
+        let more = 2 * n + if z { 2 + n } else { 0 } + if m { 2 + n } else { 0 } + self.below(5) as i32;
+        s.extend(self.doubles(more as usize));
+        self.damaged(s)
+    }
+
     /// A run of points that is closed half the time.
     fn run(&mut self) -> Vec<u8> {
         let n = self.below(9) as usize;
@@ -105,9 +115,16 @@ impl Random {
         s
     }
 
-    fn shape(&mut self, point: bool, z: bool, m: bool) -> Vec<u8> {
-        let counts = if point { Vec::new() } else { self.counts() };
-        let n = if point { 1 } else { points_in(&counts) };
+    /// The tables of a point, of a multipoint or of a shape with parts.
+    fn shape(&mut self, point: bool, multipoint: bool, z: bool, m: bool) -> Vec<u8> {
+        let counts = if point || multipoint { Vec::new() } else { self.counts() };
+        let n = if point {
+            1
+        } else if multipoint {
+            self.below(9) as usize
+        } else {
+            points_in(&counts)
+        };
         let mut s = self.doubles(8);
         s.extend(ints(&[counts.len() as i32]));
         s.extend(ints(&counts));
@@ -128,18 +145,20 @@ impl Random {
             }
             4 | 5 => (0, ints(&[self.int(), self.int()])),
             6 => {
-                let flags = self.below(4) as u8;
-                (flags, self.body(flags % 2 == 1, flags / 2 == 1))
+                let flags = self.below(8) as u8;
+                let (z, m, multipoint) = z_m_multipoint(flags);
+                (flags, if multipoint { self.set(z, m) } else { self.body(z, m) })
             }
             7 => (0, self.run()),
             8 => {
                 let (z, m) = self.pick(&LAYOUTS);
-                (z as u8 + 2 * m as u8, self.shape(false, z, m))
+                let multipoint = self.below(3) == 0;
+                (flags_of(z, m, multipoint), self.shape(false, multipoint, z, m))
             }
             9 => {
                 let kind = self.pick(&WRITTEN);
                 let (z, m) = has_z_m(kind);
-                let shapes: Vec<Vec<u8>> = (0..1 + self.below(3)).map(|_| self.shape(is_point(kind), z, m)).collect();
+                let shapes: Vec<Vec<u8>> = (0..1 + self.below(3)).map(|_| self.shape(is_point(kind), is_multipoint(kind), z, m)).collect();
                 (0, file_of(kind, &shapes))
             }
             _ => (0, self.doubles(2)),

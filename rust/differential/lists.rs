@@ -1,5 +1,5 @@
 //! Inputs by list: every short one where that is possible, and limits.
-use crate::values::{doubles, filler, has_z_m, ints, is_point, DOUBLES, KINDS, LIMITS, NAN, WRITTEN};
+use crate::values::{doubles, filler, flags_of, has_z_m, ints, is_multipoint, is_point, DOUBLES, KINDS, LIMITS, NAN, WRITTEN};
 
 /// What takes an input: its flags and its bytes.
 pub type Put<'a> = &'a mut dyn FnMut(u8, Vec<u8>);
@@ -69,6 +69,11 @@ fn body_of(p: i32, n: i32, starts: &[i32], more: usize) -> Vec<u8> {
     [doubles((0..4).map(filler)), ints(&[p, n]), ints(starts), doubles((4..4 + more).map(filler))].concat()
 }
 
+/// A multipoint: a box, the number of points, and so many doubles.
+fn set_of(n: i32, more: usize) -> Vec<u8> {
+    [doubles((0..4).map(filler)), ints(&[n]), doubles((4..4 + more).map(filler))].concat()
+}
+
 /// Every list of so many entries, each one of these.
 fn lists<T: Copy>(of: &[T], length: usize) -> Vec<Vec<T>> {
     if length == 0 {
@@ -111,6 +116,24 @@ fn list_bodies(put: Put) {
     }
 }
 
+/// Multipoints, with all flags: n from -1 to 3, cut at every length, and longer than whole; each limit as n; the largest that a block holds and the
+/// crate reserves for, and larger ones.
+fn list_multipoints(put: Put) {
+    for (z, m) in [(false, false), (true, false), (false, true), (true, true)] {
+        let flags = flags_of(z, m, true);
+        let measures = z as usize + m as usize;
+        for n in -1..=3 {
+            let points = n.max(0) as usize;
+            let s = set_of(n, 2 * points + measures * (2 + points) + 1);
+            (0..=s.len()).for_each(|k| put(flags, s[..k].to_vec()));
+        }
+        LIMITS.iter().for_each(|&n| put(flags, set_of(n, 30)));
+        let most = [32000, 21000, 16000][measures];
+        put(flags, set_of(most, 2 * most as usize + measures * (2 + most as usize)));
+        [32767, 32768, 32769].iter().for_each(|&n| put(flags, set_of(n, 64000)));
+    }
+}
+
 /// Every run of up to 3 points over these coordinates; runs of 4 that turn, open and closed; a long one.
 fn list_rings(put: Put) {
     const COORDINATES: [u64; 7] = [0, 1 << 63, 1, 0x3ff0_0000_0000_0000, NAN, 0x7ff0_0000_0000_0000, 0xfff0_0000_0000_0000];
@@ -143,15 +166,21 @@ pub fn points_in(counts: &[i32]) -> usize {
 
 pub const LAYOUTS: [(bool, bool); 3] = [(false, false), (false, true), (true, true)];
 
-/// Every shape of up to 3 parts of 0 to 2 points, in the three layouts, filled three ways; the largest that a block holds.
+/// Every shape of up to 3 parts of 0 to 2 points, and every multipoint of 0 to 4 points, in the three layouts, filled three ways; the largest that a
+/// block holds.
 fn list_body_bytes(put: Put) {
     for (z, m) in LAYOUTS {
-        let flags = z as u8 + 2 * m as u8;
+        let flags = flags_of(z, m, false);
         for counts in (0..=3).flat_map(|p| lists(&[0, 1, 2], p)) {
             (0..3).for_each(|fill| put(flags, shape_of(&counts, points_in(&counts), z, m, fill)));
         }
         put(flags, shape_of(&[16000], 16000, z, m, 0));
         put(flags, shape_of(&vec![0; 60000], 0, z, m, 0));
+        let flags = flags_of(z, m, true);
+        for n in 0..=4 {
+            (0..3).for_each(|fill| put(flags, shape_of(&[], n, z, m, fill)));
+        }
+        put(flags, shape_of(&[], 16000, z, m, 0));
     }
 }
 
@@ -159,12 +188,14 @@ pub fn file_of(kind: i32, shapes: &[Vec<u8>]) -> Vec<u8> {
     [ints(&[kind, shapes.len() as i32]), shapes.concat()].concat()
 }
 
-/// Each kind: every one or two records of up to 2 parts of 0 to 2 points; a thousand records; one large record.
+/// Each kind: every one or two records of up to 2 parts of 0 to 2 points, or of multipoints of 0 to 4 points; a thousand records; one large record.
 fn list_files(put: Put) {
     for kind in WRITTEN {
         let (z, m) = has_z_m(kind);
         let shapes: Vec<Vec<u8>> = if is_point(kind) {
             (0..16).map(|fill| shape_of(&[], 1, z, m, fill)).collect()
+        } else if is_multipoint(kind) {
+            (0..=4).flat_map(|n| (0..3).map(move |fill| shape_of(&[], n, z, m, fill))).collect()
         } else {
             let all = (0..=2).flat_map(|p| lists(&[0, 1, 2], p));
             all.map(|counts| shape_of(&counts, points_in(&counts), z, m, counts.len())).collect()
@@ -174,7 +205,9 @@ fn list_files(put: Put) {
             put(0, file_of(kind, &chosen.iter().map(|&i| shapes[i].clone()).collect::<Vec<_>>()));
         }
         put(0, file_of(kind, &vec![shapes[1].clone(); 1000]));
-        if !is_point(kind) {
+        if is_multipoint(kind) {
+            put(0, file_of(kind, &[shape_of(&[], 14000, z, m, 0)]));
+        } else if !is_point(kind) {
             put(0, file_of(kind, &[shape_of(&[7000, 0, 7000], 14000, z, m, 0)]));
         }
     }
@@ -224,7 +257,10 @@ pub fn list(part_number: usize, put: Put) {
         2 => list_header_bytes(put),
         3 => list_record_headers(put),
         4 | 5 => list_pairs(put),
-        6 => list_bodies(put),
+        6 => {
+            list_bodies(put);
+            list_multipoints(put)
+        }
         7 => list_rings(put),
         8 => list_body_bytes(put),
         9 => list_files(put),

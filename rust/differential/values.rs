@@ -16,7 +16,7 @@ pub const DOUBLES: [u64; 16] = [
 /// The fourteen kinds, their neighbours, and what is between.
 pub const KINDS: std::ops::RangeInclusive<i32> = -2..=33;
 /// Those of whole files.
-pub const WRITTEN: [i32; 9] = [1, 21, 11, 3, 23, 13, 5, 25, 15];
+pub const WRITTEN: [i32; 12] = [1, 21, 11, 3, 23, 13, 5, 25, 15, 8, 28, 18];
 
 pub fn ints(values: &[i32]) -> Vec<u8> {
     values.iter().flat_map(|n| n.to_le_bytes()).collect()
@@ -41,9 +41,22 @@ pub fn filler(i: usize) -> u64 {
 
 /// Whether shapes of a kind of `WRITTEN` have z, and m.
 pub fn has_z_m(kind: i32) -> (bool, bool) {
-    (matches!(kind, 11 | 13 | 15), !matches!(kind, 1 | 3 | 5))
+    (matches!(kind, 11 | 13 | 15 | 18), !matches!(kind, 1 | 3 | 5 | 8))
 }
 
 pub fn is_point(kind: i32) -> bool {
     matches!(kind, 1 | 11 | 21)
+}
+
+pub fn is_multipoint(kind: i32) -> bool {
+    matches!(kind, 8 | 18 | 28)
+}
+
+/// The flags of a case: z, m, and that it is a multipoint.
+pub fn flags_of(z: bool, m: bool, multipoint: bool) -> u8 {
+    z as u8 + 2 * m as u8 + 4 * multipoint as u8
+}
+
+pub fn z_m_multipoint(flags: u8) -> (bool, bool, bool) {
+    (flags % 2 == 1, flags / 2 % 2 == 1, flags / 4 == 1)
 }

@@ -23,13 +23,14 @@ use std::rc::Rc;
 use crate::header;
 use crate::reader::{ShapeIndex, ShapeReader};
 use crate::record::io::{read_ms_into, MultiPartShapeReader, MultiPartShapeWriter};
+use crate::record::multipoint::GenericMultipoint;
 use crate::record::polygon::GenericPolygon;
 use crate::record::polyline::GenericPolyline;
 use crate::record::traits::HasXY;
 use crate::record::{
-    self, EsriShape, GenericBBox, Multipatch, Multipoint, MultipointM, MultipointZ, Patch, Point,
-    PointM, PointZ, Polygon, PolygonM, PolygonRing, PolygonZ, Polyline, PolylineM, PolylineZ,
-    ReadableShape, RingType,
+    self, ConcreteReadableShape, EsriShape, GenericBBox, Multipatch, Multipoint, MultipointM,
+    MultipointZ, Patch, Point, PointM, PointZ, Polygon, PolygonM, PolygonRing, PolygonZ, Polyline,
+    PolylineM, PolylineZ, ReadableShape, RingType, WritableShape,
 };
 use crate::writer::{self, ShapeWriter};
 use crate::{Error, ShapeType};
@@ -191,6 +192,10 @@ fn is_point(kind: i32) -> bool {
     matches!(kind, 1 | 11 | 21)
 }
 
+fn is_multipoint(kind: i32) -> bool {
+    matches!(kind, 8 | 18 | 28)
+}
+
 /// Polylines and polygons: the kinds with parts that document 01 takes.
 fn has_parts(kind: i32) -> bool {
     matches!(kind, 3 | 13 | 23 | 5 | 15 | 25)
@@ -307,7 +312,7 @@ fn empty_shp() -> Vec<u8> {
 }
 
 // ---------------------------------------------------------------------------------------------
-// Bodies of shapes with parts, in flat form
+// Bodies of shapes with parts and of multipoints, in flat form
 
 /// A range and one value for each point, of z or of m.
 #[derive(Debug, Clone, PartialEq)]
@@ -316,13 +321,13 @@ pub struct Run {
     pub values: Vec<f64>,
 }
 
-/// The body of a shape with parts: the bytes of a record's content after the kind.
+/// The body of a shape with parts, or of a multipoint: the bytes of a record's content after the kind.
 /// Equality is that of IEEE numbers; compare the bits where that matters.
 #[derive(Debug, Clone, PartialEq)]
 pub struct Body {
     /// Xmin, Ymin, Xmax, Ymax.
     pub bbox: [f64; 4],
-    /// The number of points of each part.
+    /// The number of points of each part; none for a multipoint.
     pub counts: Vec<usize>,
     /// x and y of each point in turn.
     pub xy: Vec<f64>,
@@ -551,6 +556,50 @@ fn reserves_of(bytes: &[u8], point: u64) -> u64 {
     parts + point * points
 }
 
+/// `read_shape_content` over a multipoint's body: that of `Multipoint`, of `MultipointM` with m, and of
+/// `MultipointZ` with z, with m or without. The crate reads m where the size has room for it, so it is
+/// given the size that the number of points asks for. The one size that it then refuses is a negative
+/// number of points, at 32. Ask [`multipoint_reserves`] first if the number may be silly.
+pub fn read_multipoint(bytes: &[u8], z: bool, m: bool) -> Result<Body, Refusal> {
+    let mut source = Source::new(bytes);
+    let size = multipoint_size(bytes, z, m);
+    let read = match (z, m) {
+        (false, false) => content_of::<Point>(&mut source, size, z, m),
+        (false, true) => content_of::<PointM>(&mut source, size, z, m),
+        (true, _) => content_of::<PointZ>(&mut source, size, z, m),
+    };
+    read.map_err(|error| refusal(error, source.at, 32))
+}
+
+fn content_of<P>(source: &mut Source, size: i32, z: bool, m: bool) -> Result<Body, Error>
+where
+    P: Coordinates,
+    GenericMultipoint<P>: ConcreteReadableShape,
+{
+    let read = GenericMultipoint::<P>::read_shape_content(source, size)?;
+    Ok(multipoint_body(&read, z, m))
+}
+
+/// The bytes of a body with the number of points that stands in it; 0 where there is none, and for one
+/// that is over what [`multipoint_reserves`] should let through.
+fn multipoint_size(bytes: &[u8], z: bool, m: bool) -> i32 {
+    if bytes.len() < 36 {
+        return 0;
+    }
+    let points = i64::from(le_i32(bytes, 32).max(0));
+    let measure = |there: bool| if there { 16 + 8 * points } else { 0 };
+    i32::try_from(36 + 16 * points + measure(z) + measure(m)).unwrap_or(0)
+}
+
+/// At most how many bytes of memory the crate reserves while it reads this body of a multipoint.
+pub fn multipoint_reserves(body: &[u8]) -> u64 {
+    if body.len() < 36 {
+        return 0;
+    }
+    let points = u64::try_from(le_i32(body, 32)).unwrap_or(0);
+    points * size_of::<PointZ>() as u64
+}
+
 /// How many points [`part_count`] lets the crate read.
 const COUNTED: usize = 4096;
 
@@ -631,6 +680,43 @@ pub fn write_body(body: &Body) -> Option<Vec<u8>> {
     Some(bytes)
 }
 
+/// `write_to` of `Multipoint`, of `MultipointM` with m, of `MultipointZ` with both; any number of points.
+/// Box and ranges are written as given. `None` where the crate has no such input: z without m, counts,
+/// or stores that disagree.
+pub fn write_multipoint(body: &Body) -> Option<Vec<u8>> {
+    if !is_set(body) {
+        return None;
+    }
+    let mut bytes = Vec::new();
+    match (&body.z, &body.m) {
+        (None, None) => multipoint_of::<Point>(body).write_to(&mut bytes),
+        (None, Some(_)) => multipoint_of::<PointM>(body).write_to(&mut bytes),
+        (Some(_), Some(_)) => multipoint_of::<PointZ>(body).write_to(&mut bytes),
+        (Some(_), None) => return None,
+    }
+    .expect(MEMORY);
+    Some(bytes)
+}
+
+/// Whether there are no counts, and the stores hold the same number of points.
+fn is_set(body: &Body) -> bool {
+    body.counts.is_empty() && holds(body, body.xy.len() / 2)
+}
+
+fn multipoint_of<P: Coordinates>(body: &Body) -> GenericMultipoint<P> {
+    GenericMultipoint {
+        bbox: bbox_of(body),
+        points: points_of(body),
+    }
+}
+
+fn multipoint_body<P: Coordinates>(read: &GenericMultipoint<P>, z: bool, m: bool) -> Body {
+    Body {
+        counts: Vec::new(),
+        ..flat(&read.bbox, std::iter::once(&read.points[..]), z, m)
+    }
+}
+
 // ---------------------------------------------------------------------------------------------
 // Rings, on x and y
 //
@@ -676,26 +762,30 @@ pub fn f64_max(a: f64, b: f64) -> f64 {
 }
 
 /// A shape to write, or one that was read. For a point kind (1, 21, 11) the body has no counts and
-/// one point, and its box and ranges play no part. A body has z exactly for 11, 13 and 15, and m
-/// exactly for those and 21, 23 and 25.
+/// one point, and its box and ranges play no part; for a multipoint (8, 28, 18) it has no counts. A
+/// body has z exactly for 11, 13, 15 and 18, and m exactly for those and 21, 23, 25 and 28.
 #[derive(Debug, Clone, PartialEq)]
 pub struct Shape {
     pub kind: i32,
     pub body: Body,
 }
 
-/// Whether the crate's types can hold the shape: one of the nine kinds, z and m as the kind has
-/// them, and counts and stores that agree. Nothing else is asked of it: no parts, empty parts,
-/// rings that are open or turn the wrong way and boxes that are wrong all go in.
+/// Whether the crate's types can hold the shape: one of the twelve kinds, z and m as the kind has
+/// them, and counts and stores that agree. Nothing else is asked of it: no parts, empty parts, no
+/// points, rings that are open or turn the wrong way and boxes that are wrong all go in.
 pub fn expressible(shape: &Shape) -> bool {
     let Shape { kind: code, body } = shape;
     let agree = if is_point(*code) {
         body.counts.is_empty() && holds(body, 1)
+    } else if is_multipoint(*code) {
+        is_set(body)
     } else {
         has_parts(*code) && counts_agree(body)
     };
     agree
-        && kind(*code).map_or(false, |kind| (kind.z, kind.m) == (body.z.is_some(), body.m.is_some()))
+        && kind(*code).map_or(false, |kind| {
+            (kind.z, kind.m) == (body.z.is_some(), body.m.is_some())
+        })
 }
 
 /// The two files of a writer.
@@ -747,6 +837,9 @@ impl FileWriter {
             5 => self.put(&Polygon::from(polyline_of::<Point>(body))),
             25 => self.put(&PolygonM::from(polyline_of::<PointM>(body))),
             15 => self.put(&PolygonZ::from(polyline_of::<PointZ>(body))),
+            8 => self.put(&multipoint_of::<Point>(body)),
+            28 => self.put(&multipoint_of::<PointM>(body)),
+            18 => self.put(&multipoint_of::<PointZ>(body)),
             _ => Err(Refusal::Inexpressible),
         }
     }
@@ -795,14 +888,15 @@ fn polyline_of<P: Coordinates>(body: &Body) -> GenericPolyline<P> {
 }
 
 /// The shape that the crate's own constructors make of the same points: `Polyline::with_parts`,
-/// or `Polygon::with_rings` over rings labelled by `PolygonRing::from`. The box and the ranges
-/// given are dropped, and those of the points come in. Point kinds come back as they are.
+/// `Polygon::with_rings` over rings labelled by `PolygonRing::from`, or `Multipoint::new`. The box and
+/// the ranges given are dropped, and those of the points come in. Point kinds come back as they are.
 ///
 /// The rings of a polygon are closed. A ring was labelled by its turning before it was closed; if
 /// closing changes the turning, it is reversed to turn as labelled.
 ///
 /// `None` where the shape is not [`expressible`] or the constructor panics: no part at all, a part
-/// of a polyline with fewer than 2 points, a first ring that is empty. Later rings may be empty.
+/// of a polyline with fewer than 2 points, a first ring that is empty, a multipoint without a point.
+/// Later rings may be empty.
 pub fn constructed(shape: &Shape) -> Option<Shape> {
     if !expressible(shape) || constructor_panics(shape) {
         return None;
@@ -816,6 +910,9 @@ pub fn constructed(shape: &Shape) -> Option<Shape> {
         5 => rings_body(&Polygon::with_rings(rings_of(body)), false, false),
         25 => rings_body(&PolygonM::with_rings(rings_of(body)), false, true),
         15 => rings_body(&PolygonZ::with_rings(rings_of(body)), true, true),
+        8 => multipoint_body(&Multipoint::new(points_of(body)), false, false),
+        28 => multipoint_body(&MultipointM::new(points_of(body)), false, true),
+        18 => multipoint_body(&MultipointZ::new(points_of(body)), true, true),
         _ => return None,
     };
     Some(Shape {
@@ -829,6 +926,7 @@ fn constructor_panics(shape: &Shape) -> bool {
     match shape.kind {
         3 | 13 | 23 => counts.is_empty() || counts.iter().any(|count| *count < 2),
         5 | 15 | 25 => counts.first().map_or(true, |count| *count == 0),
+        8 | 18 | 28 => shape.body.xy.is_empty(),
         _ => false,
     }
 }
@@ -863,7 +961,7 @@ fn point_body<P: Coordinates>(point: &P, z: bool, m: bool) -> Body {
 // For reference: document 01's rules for sizes and points are its own. The crate takes any size
 // that is not too small, reads m if the size has room for it, and skips what is left.
 
-/// A record that was read. There is no body for Null (0) and for 8, 18, 28 and 31.
+/// A record that was read. There is no body for Null (0) and for 31.
 #[derive(Debug, Clone, PartialEq)]
 pub struct Record {
     pub kind: i32,
@@ -928,9 +1026,9 @@ fn record_of(shape: crate::Shape) -> Record {
         crate::Shape::Polygon(polygon) => (5, Some(rings_body(&polygon, false, false))),
         crate::Shape::PolygonM(polygon) => (25, Some(rings_body(&polygon, false, true))),
         crate::Shape::PolygonZ(polygon) => (15, Some(rings_body(&polygon, true, true))),
-        crate::Shape::Multipoint(_) => (8, None),
-        crate::Shape::MultipointM(_) => (28, None),
-        crate::Shape::MultipointZ(_) => (18, None),
+        crate::Shape::Multipoint(set) => (8, Some(multipoint_body(&set, false, false))),
+        crate::Shape::MultipointM(set) => (28, Some(multipoint_body(&set, false, true))),
+        crate::Shape::MultipointZ(set) => (18, Some(multipoint_body(&set, true, true))),
         crate::Shape::Multipatch(_) => (31, None),
     };
     Record { kind, body }
@@ -939,8 +1037,11 @@ fn record_of(shape: crate::Shape) -> Record {
 /// Where document 01 places the size that the crate refused with the source at `at`: p at 36, n at
 /// 40, the start of the first part that is refused, else 0. The crate judges the record's size
 /// after the starts and before the parts; with every start equal to n no part can be refused, so
-/// if that is still refused it was the record's size. Kinds without parts in 01 give 0.
+/// if that is still refused it was the record's size. n of a multipoint stands at 36. Points give 0.
 fn record_size_offset<S: ReadableShape>(content: &[u8], size: i32, at: usize) -> usize {
+    if at == 40 && is_multipoint(le_i32(content, 0)) && le_i32(content, 36) < 0 {
+        return 36;
+    }
     if at < 44 || !has_parts(le_i32(content, 0)) {
         return 0;
     }
@@ -973,14 +1074,6 @@ pub fn record_reserves(content: &[u8]) -> u64 {
         31 => reserves(body, true, true) + patches_reserve(body),
         _ => 0,
     }
-}
-
-fn multipoint_reserves(body: &[u8]) -> u64 {
-    if body.len() < 36 {
-        return 0;
-    }
-    let points = u64::try_from(le_i32(body, 32)).unwrap_or(0);
-    points * size_of::<PointZ>() as u64
 }
 
 /// A multipatch reserves a type and a patch for each part, beside what other kinds reserve.

@@ -612,7 +612,8 @@ fn writer_states(checks: &mut Checks) {
         &big_numbers(&[50])[..],
     );
 
-    for code in [0, 2, 8, 18, 28, 31] {
+    // no such kind of a writable type; and a multipoint has no parts
+    for code in [0, 2, 31, 8, 18, 28] {
         let shape = Shape {
             kind: code,
             ..line.clone()
@@ -623,6 +624,123 @@ fn writer_states(checks: &mut Checks) {
             Err(Refusal::Inexpressible),
         );
     }
+}
+
+/// The bytes of a multipoint's body: box, n, then these doubles.
+fn set_bytes(n: i32, rest: &[f64]) -> Vec<u8> {
+    [doubles(&[0.5, 1.5, 2.5, 3.5]), numbers(&[n]), doubles(rest)].concat()
+}
+
+/// Its fields, with z and with m: for so many points rising numbers, with the ranges -1 to -2.
+fn rising_set(points: usize, z: bool, m: bool) -> (Body, Vec<u8>) {
+    let mut rest = rising(2 * points);
+    for _ in 0..u32::from(z) + u32::from(m) {
+        rest.extend([-1.0, -2.0]);
+        rest.extend(rising(points));
+    }
+    let body = Body {
+        counts: vec![],
+        ..rising_body(&[points], z, m)
+    };
+    (body, set_bytes(points as i32, &rest))
+}
+
+/// Multipoints: 20 + 8n words, with z 8 + 4n more, with m 8 + 4n more; written with m, read without it too.
+fn multipoints(checks: &mut Checks) {
+    let kinds = [(8, false, false), (28, false, true), (18, true, true)];
+    for points in 0..4 {
+        for (z, m) in [(false, false), (false, true), (true, false), (true, true)] {
+            let (body, bytes) = rising_set(points, z, m);
+            checks.same("read", read_multipoint(&bytes, z, m), Ok(body.clone()));
+            let longer = [&bytes[..], &[1, 2, 3]].concat();
+            checks.same("read on", read_multipoint(&longer, z, m), Ok(body.clone()));
+            let written = write_multipoint(&body);
+            let expected = if z && !m { None } else { Some(bytes.clone()) };
+            checks.same("written", written, expected);
+            // cut at every byte: it ends inside the field that begins at or before it
+            let mut fields: Vec<usize> = (0..4).map(|i| 8 * i).collect();
+            fields.extend((0..(bytes.len() - 36) / 8).map(|i| 36 + 8 * i));
+            fields.push(32);
+            for length in 0..bytes.len() {
+                let cut = fields.iter().filter(|field| **field <= length).max();
+                let found = read_multipoint(&bytes[..length], z, m);
+                checks.same("cut", found, Err(Refusal::Short(*cut.unwrap())));
+            }
+        }
+        for (code, z, m) in kinds {
+            let (body, bytes) = rising_set(points, z, m);
+            let shape = Shape {
+                kind: code,
+                body: body.clone(),
+            };
+            let n = points as i32;
+            let measure = |there: bool| if there { 8 + 4 * n } else { 0 };
+            let words = 20 + 8 * n + measure(z) + measure(m);
+            let files = write_files(&[shape.clone(), shape]).unwrap();
+            let content = [numbers(&[code]), bytes].concat();
+            checks.same("length", content.len(), 2 * words as usize);
+            let record = |number: i32| [big_numbers(&[number, words]), content.clone()].concat();
+            checks.same(
+                "records",
+                &files.shp[100..],
+                &[record(1), record(2)].concat()[..],
+            );
+            let entries = big_numbers(&[50, words, 54 + words, words]);
+            checks.same("entries", &files.shx[100..], &entries[..]);
+            checks.same("kind", read_header(&files.shp).map(|h| h.kind), Ok(code));
+            let read = |size: i32| read_record(&content, size).map(|record| record.body.unwrap());
+            checks.same("record", read(2 * words), Ok(body.clone()));
+            checks.same(
+                "typed",
+                read_record_as(code, &content, 2 * words).map(|r| r.kind),
+                Ok(code),
+            );
+            checks.same(
+                "a size above is taken",
+                read(2 * words + 2),
+                Ok(body.clone()),
+            );
+            let least = 20 + 8 * n + measure(z);
+            checks.same("a size below", read(2 * least - 2), Err(Refusal::Size(0)));
+            if m {
+                let lacks = read(2 * least).unwrap();
+                checks.same("xy", lacks.xy, body.xy.clone());
+                checks.same("z", lacks.z, body.z.clone());
+                let m = lacks.m.unwrap();
+                checks.same("no m", m.values, vec![NO_DATA; points]);
+            }
+        }
+    }
+    for n in [-1, MIN] {
+        for (z, m) in [(false, false), (false, true), (true, false), (true, true)] {
+            let found = read_multipoint(&set_bytes(n, &rising(20)), z, m);
+            checks.same("n below 0", found, Err(Refusal::Size(32)));
+        }
+        for (code, _, _) in kinds {
+            let content = [numbers(&[code]), set_bytes(n, &rising(20))].concat();
+            let read = read_record(&content, 40).map(|record| record.kind);
+            checks.same("of a record", read, Err(Refusal::Size(36)));
+        }
+    }
+    let (low, nan) = (-1e40, f64::NAN);
+    let bytes = set_bytes(2, &[1.0, 2.0, 3.0, 4.0, low, nan, low, nan]);
+    let m = read_multipoint(&bytes, false, true).unwrap().m.unwrap();
+    checks.same_bits("m range is kept", &m.range, &[low, nan]);
+    checks.same_bits("m values are raised", &m.values, &[NO_DATA; 2]);
+    checks.same("reserved", multipoint_reserves(&bytes), 2 * 32);
+    checks.same(
+        "n MAX",
+        multipoint_reserves(&set_bytes(MAX, &[])),
+        32 * MAX as u64,
+    );
+    checks.same("no n", multipoint_reserves(&bytes[..35]), 0);
+
+    let (body, _) = rising_set(2, true, true);
+    let made = constructed(&Shape { kind: 18, body }).unwrap().body;
+    checks.same("box of the points", made.bbox, [1.0, 2.0, 3.0, 4.0]);
+    checks.same("z range of the points", made.z.unwrap().range, [1.0, 2.0]);
+    let (body, _) = rising_set(0, false, false);
+    checks.same("no point", constructed(&Shape { kind: 8, body }), None);
 }
 
 /// Whether the crate's writer takes this type: the constant of the type itself, where it is
@@ -898,9 +1016,6 @@ fn records(checks: &mut Checks) {
         read_record_as(0, &point, 36),
         Err(Refusal::Inexpressible),
     );
-    let multipoint = record_of(28, [doubles(&[0.0; 4]), numbers(&[0])].concat());
-    let read = read_record(&multipoint, 40).map(|record| record.kind);
-    checks.same("multipoint with m", read, Ok(28));
 }
 
 fn index(checks: &mut Checks) {
@@ -947,6 +1062,7 @@ fn main() -> ExitCode {
         file_of_lines,
         files_of_all_kinds,
         writer_states,
+        multipoints,
         null_shapes,
         constructors,
         records,

@@ -1,5 +1,5 @@
-// Part 6: a body is read into stores with room behind it, and again into stores that it fills. All entries behind it stay, and a refusal
-// stores nothing.
+// Part 6: a body, in parts or as a multipoint, is read into stores with room behind it, and again into stores that it fills. All entries behind it
+// stay, and a refusal stores nothing.
 use crate::given;
 use crate::seen;
 use crate::seen::Seen;
@@ -140,6 +140,7 @@ fn fill(counts: &mut [u32], xy: &mut [f64], zs: &mut [f64], ms: &mut [f64]) {
 fn read(
     s: &[u8],
     e: &[u8],
+    parts: bool,
     z: bool,
     m: bool,
     counts: &mut [u32],
@@ -148,7 +149,7 @@ fn read(
     ms: &mut [f64],
 ) -> bool {
     fill(counts, xy, zs, ms);
-    let answer = multipart::read_body(s, true, z, m, counts, xy, zs, ms);
+    let answer = multipart::read_body(s, parts, z, m, counts, xy, zs, ms);
     judged(e, answer, z, m, counts, xy, zs, ms)
 }
 
@@ -156,6 +157,7 @@ fn read(
 fn read_into(
     s: &[u8],
     e: &[u8],
+    parts: bool,
     z: bool,
     m: bool,
     p: usize,
@@ -182,6 +184,7 @@ fn read_into(
     read(
         s,
         e,
+        parts,
         z,
         m,
         &mut counts[0..p],
@@ -202,12 +205,14 @@ pub fn body_read(
     ms: &mut [f64],
 ) -> bool {
     let z = flags % 2 == 1;
-    let m = flags / 2 == 1;
+    let m = flags / 2 % 2 == 1;
+    let parts = flags / 4 == 0;
     let p = given::word(e, 65);
     let n = given::word(e, 69);
     if read_into(
         s,
         e,
+        parts,
         z,
         m,
         p + 2,
@@ -221,7 +226,7 @@ pub fn body_read(
     ) {
         let nz = where_set(z, n);
         let nm = where_set(m, n);
-        return read_into(s, e, z, m, p, 2 * n, nz, nm, counts, xy, zs, ms);
+        return read_into(s, e, parts, z, m, p, 2 * n, nz, nm, counts, xy, zs, ms);
     }
     false
 }

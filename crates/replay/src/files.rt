@@ -26,7 +26,12 @@ fn layout(
     if flags == 2 {
         return layouts::write_point_m_shape(out, b, counts, xy, ms);
     }
-    layouts::write_point_z_shape(out, b, counts, xy, zs, ms)
+    if flags == 3 {
+        return layouts::write_point_z_shape(out, b, counts, xy, zs, ms);
+    }
+    let z = flags % 2 == 1;
+    let m = flags / 2 % 2 == 1;
+    layouts::write_body(out, false, z, m, b, counts, xy, zs, ms)
 }
 
 fn body(
