@@ -41,6 +41,10 @@ def gdal(folder):
         "polygonm": "POLYGON M ((0 0 1,0 1 1,1 1 1,1 0 1,0 0 1))",
         "polygonz": "POLYGON Z ((0 0 1,0 1 1,1 1 1,1 0 1,0 0 1))",
         "polygonzm": "POLYGON ZM ((0 0 1 2,0 1 1 2,1 1 1 2,1 0 1 2,0 0 1 2))",
+        "multipoint": "MULTIPOINT ((0 0),(1 1),(2 0))",
+        "multipointm": "MULTIPOINT M ((0 0 1),(1 1 2),(2 0 3))",
+        "multipointz": "MULTIPOINT Z ((0 0 1),(1 1 2),(2 0 3))",
+        "multipointzm": "MULTIPOINT ZM ((0 0 1 9),(1 1 2 8),(2 0 3 7))",
     }
 
     def layer(name, kind, texts):
@@ -53,9 +57,12 @@ def gdal(folder):
     for name, text in wkt.items():
         layer(name, name, [text, text])
     # a feature without a geometry in each of the places
-    for name in ("point", "polyline", "polygon", "polygonz"):
+    for name in ("point", "polyline", "polygon", "polygonz", "multipoint", "multipointz"):
         for place, empty in EMPTY.items():
             layer("%s_null_%s" % (name, place), name, ["" if e else wkt[name] for e in empty])
+    # a set without a point, and one of a single point, in a layer of multipoints
+    layer("multipoint_empty", "multipoint", [wkt["multipoint"], "MULTIPOINT EMPTY", wkt["multipoint"]])
+    layer("multipoint_one", "multipoint", ["MULTIPOINT ((1 2))", wkt["multipoint"]])
     # a plan of three runs, the second of which is taken down in the file
     layer("taken_down", "polyline", [wkt["polyline"]] * 3)
     run("ogrinfo", os.path.join(folder, "gdal_taken_down.shp"), "-dialect", "SQLite",
@@ -73,7 +80,7 @@ def gdal(folder):
 
 
 def shapelib(folder):
-    """The C library itself: points, arcs and polygons, with m and with z."""
+    """The C library itself: points, arcs, polygons and multipoints, with m and with z."""
     lib = ctypes.CDLL("libshp.so.2")
     lib.SHPCreate.restype = lib.SHPCreateObject.restype = ctypes.c_void_p
     lib.SHPWriteObject.argtypes = [ctypes.c_void_p, ctypes.c_int, ctypes.c_void_p]
@@ -83,8 +90,10 @@ def shapelib(folder):
     def pair(name, kind, empty):
         handle = lib.SHPCreate(os.path.join(folder, "shapelib_" + name).encode(), kind)
         for e in empty:
-            parts = [] if e else [[[1.0, 2.0]]] if kind in (1, 11, 21) else [RING, HOLE] if kind in (5, 15, 25) else [LINE, SECOND]
+            parts = [] if e else [[[1.0, 2.0]]] if kind in (1, 11, 21) else [RING, HOLE] if kind in (5, 15, 25) else [LINE] if kind in (8, 18, 28) else [LINE, SECOND]
             xy = [c for part in parts for c in part]
+            if kind in (8, 18, 28):
+                parts = []
             starts = [sum(len(part) for part in parts[:i]) for i in range(len(parts))]
             shape = lib.SHPCreateObject(
                 0 if e else kind, -1, len(parts), (ctypes.c_int * len(starts))(*starts), None, len(xy),
@@ -93,12 +102,13 @@ def shapelib(folder):
             lib.SHPDestroyObject(shape)
         lib.SHPClose(handle)
 
-    kinds = {"point": 1, "pointm": 21, "pointz": 11, "arc": 3, "arcm": 23, "arcz": 13, "polygon": 5, "polygonm": 25, "polygonz": 15}
+    kinds = {"point": 1, "pointm": 21, "pointz": 11, "arc": 3, "arcm": 23, "arcz": 13, "polygon": 5, "polygonm": 25, "polygonz": 15,
+             "multipoint": 8, "multipointm": 28, "multipointz": 18}
     for name, kind in kinds.items():
         pair(name, kind, (0, 0))
     pair("null", 0, (1, 1))
     pair("empty", 3, ())
-    for name in ("point", "arc", "polygon", "polygonz"):
+    for name in ("point", "arc", "polygon", "polygonz", "multipoint", "multipointz"):
         for place, empty in EMPTY.items():
             pair("%s_null_%s" % (name, place), kinds[name], empty)
 
@@ -119,6 +129,9 @@ def pyshp(folder):
                     w.pointm(1.0, 2.0, 4.0)
                 elif kind == 11:
                     w.pointz(1.0, 2.0, 3.0, 4.0)
+                elif kind in (8, 18, 28):
+                    points = [xy + [1.0] * {8: 0, 28: 1, 18: 2}[kind] for xy in LINE]
+                    {8: w.multipoint, 28: w.multipointm, 18: w.multipointz}[kind](points)
                 else:
                     parts = lines["line" if kind in (3, 13, 23) else "poly"]
                     extra = {3: 0, 5: 0, 23: 1, 25: 1, 13: 2, 15: 2}[kind]
@@ -126,12 +139,13 @@ def pyshp(folder):
                     {3: w.line, 23: w.linem, 13: w.linez, 5: w.poly, 25: w.polym, 15: w.polyz}[kind](parts)
                 w.record("run %d" % k)
 
-    kinds = {"point": 1, "pointm": 21, "pointz": 11, "polyline": 3, "polylinem": 23, "polylinez": 13, "polygon": 5, "polygonm": 25, "polygonz": 15}
+    kinds = {"point": 1, "pointm": 21, "pointz": 11, "polyline": 3, "polylinem": 23, "polylinez": 13, "polygon": 5, "polygonm": 25, "polygonz": 15,
+             "multipoint": 8, "multipointm": 28, "multipointz": 18}
     for name, kind in kinds.items():
         pair(name, kind, (0, 0))
     pair("null", 0, (1, 1))
     pair("empty", 3, ())
-    for name in ("point", "polyline", "polygon", "polygonz"):
+    for name in ("point", "polyline", "polygon", "polygonz", "multipoint", "multipointz"):
         for place, empty in EMPTY.items():
             pair("%s_null_%s" % (name, place), kinds[name], empty)
 
