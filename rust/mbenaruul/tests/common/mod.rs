@@ -211,7 +211,7 @@ pub fn written(records: &[Record]) -> (Vec<u8>, Vec<u8>) {
 
 /// A parts record's content, field by field: kind, box, counts, starts, then the doubles.
 pub fn content(kind: i32, p: i32, n: i32, starts: &[i32], doubles: &[f64]) -> Vec<u8> {
-    fields(kind, &[&[p, n], starts].concat(), doubles)
+    fields(kind, &[&[p, n][..], starts].concat(), doubles)
 }
 
 /// A multipoint's content: kind, box, the number of points, then the doubles.
