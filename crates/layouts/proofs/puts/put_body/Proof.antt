@@ -65,7 +65,8 @@ returns c =
     let r = q .before .before .before .before in
     let t = r .before .before .before .before in
     let u = t .before .before in
-    body-stored _ _ _ _ _ _ _ _ (e1 u .pre .agreed) _ (points (e1 u)) _ (t .put-front .last .0) (r .write-doubles .last .0) (q .put-measure .last .0) (p .put-measure2 .last .0)
+    let a = e1 u .args in
+    body-stored (a .z) (a .m) (a .bbox) (a .counts .now) (a .xy .now) (a .zs .now) (a .ms .now) (a .parts) (e1 u .pre .agreed) _ (points (e1 u)) _ (t .put-front .last .0) (r .write-doubles .last .0) (q .put-measure .last .0) (p .put-measure2 .last .0)
     (t .put-front .ensures)
     (rw (u .before .front-size .ensures) at (r .write-doubles .ensures))
     (rw (u .before .front-size .ensures) at (q .put-measure .ensures))
