@@ -97,10 +97,10 @@ pub size-most : (flag : Bool) (n : ℕ) → measureSize flag n ≤ 16 + 8 * n
 size-most true n = omega arith
 size-most false n = omega arith
 
--- a table that holds what the layout has
-pub same-size : (flag : Bool) (k n : ℕ) → k ≡ cond flag n 0 → measureSize flag k ≡ measureSize flag n
-same-size true k n e = ap (λ (i : ℕ). 16 + 8 * i) e
-same-size false k n e = refl
+-- there is room for a table that holds what the layout has
+pub measure-fits : (flag : Bool) (values : List Float) (n at room : ℕ) → length values ≡ cond flag n 0 → at + measureSize flag n ≤ room → at + measureSize flag (length values) ≤ room
+measure-fits true values n at room e h = omega arith
+measure-fits false values n at room e h = h
 
 -- ---- the whole body
 
@@ -158,6 +158,6 @@ module _ (z m : Bool) (b : BBoxZ) (counts : List ℕ) (xy zs ms : List Float) wh
         let e : f ++ f64sLe xy ++ zRun ++ mRun ≡ f ++ (f64sLe xy ++ (zRun ++ mRun)) = simp append-assoc in
         s4 ∙ ap (sets out 0) (e ∙ sym (body-is parts (h .xy-has)))
 
-    -- n is the points as the code has them
-    pub body-stored : (i : ℕ) → i ≡ n → (out l1 l2 l3 l4 : List ℕ) → l1 ≡ sets out 0 (frontBytes parts b counts i) → l2 ≡ sets l1 start (f64sLe xy) → l3 ≡ sets l2 (start + 16 * i) zRun → l4 ≡ sets l3 (start + 16 * i + measureSize z i) mRun → l4 ≡ sets out 0 (shapeBytes (severalOf parts z m b counts xy zs ms))
-    body-stored i e = rw e stored
+    -- by where the points start, how many they are and the bytes of z, as the code has them
+    pub body-stored : (at i w : ℕ) → at ≡ start → i ≡ n → w ≡ measureSize z i → (out l1 l2 l3 l4 : List ℕ) → l1 ≡ sets out 0 (frontBytes parts b counts i) → l2 ≡ sets l1 at (f64sLe xy) → l3 ≡ sets l2 (at + 16 * i) zRun → l4 ≡ sets l3 (at + 16 * i + w) mRun → l4 ≡ sets out 0 (shapeBytes (severalOf parts z m b counts xy zs ms))
+    body-stored at i w p q r = rw (p, r, q) stored

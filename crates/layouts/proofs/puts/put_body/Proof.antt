@@ -6,7 +6,7 @@ use borrow.Author.Needs.{needs}
 use lib.ListN.{length}
 use Rattle.layouts.specs.Steps.{measureSize, frontSize}
 use Rattle.layouts.specs.Tables.{pointsLent}
-use Rattle.layouts.proofs.BodyLaws.{size-is, same-size, body-stored}
+use Rattle.layouts.proofs.BodyLaws.{size-is, measure-fits, body-stored}
 use Rattle.layouts.proofs.TableLaws.{no-counts, sum-held}
 use Rattle.layouts.proofs.puts.put_body.Statement.{statement}
 use Rattle.layouts.proofs.puts.put_body.Tie as tie
@@ -24,13 +24,6 @@ points c = omega (arith, c .pre .agreed .xy-has)
 -- where the fields end
 room : (c : tie.Start) → frontSize (c .args .parts) (length (c .args .counts .now)) + 16 * n-of c + measureSize (c .args .z) (n-of c) + measureSize (c .args .m) (n-of c) ≤ length (c .args .out .now)
 room c = rw (size-is _ _ _ (length (c .args .counts .now)) (n-of c) (no-counts (c .args .parts) (length (c .args .counts .now)) (c .pre .counts-fit)), points c) (c .pre .fits)
-
--- the values are as many as the layout has
-z-size : (c : tie.Start) → measureSize (c .args .z) (length (c .args .zs .now)) ≡ measureSize (c .args .z) (n-of c)
-z-size c = same-size (c .args .z) _ _ (rw (points c) (c .pre .agreed .zs-has))
-
-m-size : (c : tie.Start) → measureSize (c .args .m) (length (c .args .ms .now)) ≡ measureSize (c .args .m) (n-of c)
-m-size c = same-size (c .args .m) _ _ (rw (points c) (c .pre .agreed .ms-has))
 
 add-z-at : tie.Need-add-z-at
 add-z-at c = omega (arith, room (c .before .before .before .before .before .before))
@@ -51,12 +44,12 @@ write-doubles-requires c κs =
 put-measure-requires : tie.Need-put-measure-requires
 put-measure-requires c κs =
     let a = e1 (c .before .before .before .before .before .before .before .before .before) in
-    omega (arith, room a, z-size a)
+    measure-fits (a .args .z) (a .args .zs .now) (n-of a) _ _ (rw (points a) (a .pre .agreed .zs-has)) (omega (arith, room a))
 
 put-measure-requires-2 : tie.Need-put-measure-requires-2
 put-measure-requires-2 c κs =
     let a = e1 (c .before .before .before .before .before .before .before .before .before .before .before .before .before) in
-    omega (arith, room a, m-size a)
+    measure-fits (a .args .m) (a .args .ms .now) (n-of a) _ _ (rw (points a) (a .pre .agreed .ms-has)) (omega (arith, room a))
 
 returns : tie.Need-returns
 returns c =
@@ -66,11 +59,11 @@ returns c =
     let t = r .before .before .before .before in
     let u = t .before .before in
     let a = e1 u .args in
-    body-stored (a .z) (a .m) (a .bbox) (a .counts .now) (a .xy .now) (a .zs .now) (a .ms .now) (a .parts) (e1 u .pre .agreed) _ (points (e1 u)) _ (t .put-front .last .0) (r .write-doubles .last .0) (q .put-measure .last .0) (p .put-measure2 .last .0)
+    body-stored (a .z) (a .m) (a .bbox) (a .counts .now) (a .xy .now) (a .zs .now) (a .ms .now) (a .parts) (e1 u .pre .agreed) _ _ _ (u .before .front-size .ensures) (points (e1 u)) (u .measure-size .ensures) _ (t .put-front .last .0) (r .write-doubles .last .0) (q .put-measure .last .0) (p .put-measure2 .last .0)
     (t .put-front .ensures)
-    (rw (u .before .front-size .ensures) at (r .write-doubles .ensures))
-    (rw (u .before .front-size .ensures) at (q .put-measure .ensures))
-    (rw (u .before .front-size .ensures, u .measure-size .ensures) at (p .put-measure2 .ensures))
+    (r .write-doubles .ensures)
+    (q .put-measure .ensures)
+    (p .put-measure2 .ensures)
 
 pub put-body-spec : {M : Type 1} → statement M
 put-body-spec =
