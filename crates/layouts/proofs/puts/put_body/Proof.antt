@@ -44,12 +44,12 @@ write-doubles-requires c κs =
 put-measure-requires : tie.Need-put-measure-requires
 put-measure-requires c κs =
     let a = e1 (c .before .before .before .before .before .before .before .before .before) in
-    measure-fits (a .args .z) (a .args .zs .now) (n-of a) _ _ (rw (points a) (a .pre .agreed .zs-has)) (omega (arith, room a))
+    measure-fits (a .args .z) (a .args .zs .now) (n-of a) _ (length (c .before .before .before .write-doubles .last .0)) (rw (points a) (a .pre .agreed .zs-has)) (omega (arith, room a))
 
 put-measure-requires-2 : tie.Need-put-measure-requires-2
 put-measure-requires-2 c κs =
     let a = e1 (c .before .before .before .before .before .before .before .before .before .before .before .before .before) in
-    measure-fits (a .args .m) (a .args .ms .now) (n-of a) _ _ (rw (points a) (a .pre .agreed .ms-has)) (omega (arith, room a))
+    measure-fits (a .args .m) (a .args .ms .now) (n-of a) _ (length (c .before .before .before .put-measure .last .0)) (rw (points a) (a .pre .agreed .ms-has)) (omega (arith, room a))
 
 returns : tie.Need-returns
 returns c =
