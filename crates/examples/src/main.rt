@@ -177,7 +177,10 @@ fn lengths() {
     show_content(15, 1, 5);
     show_content(11, 0, 1);
     show_content(0, 0, 0);
-    show_content(8, 0, 1);
+    show_content(8, 0, 2);
+    show_content(28, 0, 2);
+    show_content(18, 0, 2);
+    show_content(31, 0, 1);
     show_content(2, 0, 1);
     show_content(-3, 0, 1);
     show_content(13, 2147483647, 2147483647);
