@@ -13,7 +13,7 @@ use mir.Val.{toZ, ofZ}
 use Rattle.format.specs.declared.kinds.Kind.{Kind}
 use Rattle.format.specs.Bytes.{le, be, leBytes, beBytes, field}
 use Rattle.format.specs.Encoding.{Box, doubles, pointBytes, boxBytes, startsFrom, valueBytes, measureBytes, pointsBytes, multipointBytes, partsBytes, shapeBytes, content, shapeWords, twoBig, recordBytes, recordsFrom, entryBytes, entriesFrom, headerFields, headerBytes, endFrom, shpBytes, shxBytes}
-use Rattle.format.specs.Lengths.{Form, onePoint, manyPoints, isMultipoint, given, fixedWords, pointWords, frontWords, contentWords}
+use Rattle.format.specs.Lengths.{Form, onePoint, manyPoints, given, fixedWords, pointWords, frontWords, contentWords}
 use Rattle.format.specs.Lengths
 use Rattle.format.specs.Numbers.{big, little, double, beI32, leI32, leF64, i32Be, i32Le, f64Le, f64sLe}
 use Rattle.format.specs.Shapes.{Point, BoxXY, Measure, Multipoint, Parts, Shape, null, point, multipoint, parted, there, partsIn, pointsIn, ownKind}
@@ -112,10 +112,6 @@ front-many p = refl
 pub front-parts : (p : ℕ) → frontWords Lengths.parts p ≡ 22 + 2 * p
 unfolding frontWords
 front-parts p = refl
-
-pub multipoint-is : (k : Kind) → isMultipoint k ≡ (eqb (k .code) 8 || eqb (k .code) 18 || eqb (k .code) 28)
-unfolding isMultipoint
-multipoint-is k = refl
 
 -- ---- counts, and what a shape's parts are
 

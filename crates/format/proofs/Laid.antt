@@ -12,7 +12,6 @@ use Rattle.format.specs.declared.kinds.Kind.{Kind}
 use Rattle.format.specs.Bytes.{leBytes}
 use Rattle.format.specs.Encoding.{doubles, pointBytes, boxBytes, startsFrom, valueBytes, measureBytes, pointsBytes, multipointBytes, partsBytes, shapeBytes, content, shapeWords, recordBytes}
 use Rattle.format.specs.Lengths.{nothing, onePoint, severalForm, frontWords, fixedWords, pointWords, contentWords}
-use Rattle.format.specs.Lengths
 use Rattle.format.specs.Numbers.{little, double, leI32}
 use Rattle.format.specs.Shapes.{Point, BoxXY, Measure, Multipoint, Parts, Shape, null, point, multipoint, parted, there, Covers, MeasuresOf, OfKind}
 use Rattle.format.specs.WellFormed.{coordinates}

@@ -1,8 +1,8 @@
 -- The bytes of a multipoint, behind the kind's field, as a body: its number of points and all that follows it are laid out in it.
 use mathlib.Core.Path.{_≡_, refl, sym, ap, _∙_}
-use mathlib.Core.Bool.{Bool, false}
+use mathlib.Core.Bool.{false}
 use mathlib.Core.List.{List, []}
-use Prim.Native.Nat.{ℕ, _+_, _*_, _^_, _≤_, _<_}
+use Prim.Native.Nat.{ℕ, _+_, _*_}
 use native.Mathlib.Omega.{arith}
 use lib.IntN.{pos, natAbs}
 use lib.ListN.{length}
@@ -19,7 +19,7 @@ use Rattle.format.proofs.MultipointStands.{box-stands, points-stand, doubles-st
 use Rattle.format.proofs.Places.{Stands, all-behind}
 use Rattle.format.proofs.Runs.{i32-back}
 use Rattle.multipart.specs.declared.judge.Walk.the-variants.{On}
-use Rattle.multipart.specs.Answers.{Two, countsOf}
+use Rattle.multipart.specs.Answers.{countsOf}
 use Rattle.multipart.specs.Body.{countsIn}
 use Rattle.multipart.specs.Walks.{PairsWalk}
 use Rattle.multipart.proofs.BodyLaws.{counts-here}

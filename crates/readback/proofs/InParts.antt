@@ -1,16 +1,14 @@
 -- The bytes of a shape with parts, behind the kind's field, as a body: its counts, its parts and all that follows them are laid out in it.
 use mathlib.Core.Path.{_≡_, refl, sym, ap, _∙_}
-use mathlib.Core.Bool.{Bool, true, false, cond}
+use mathlib.Core.Bool.{true}
 use mathlib.Core.List.{List, map, flatten}
-use Prim.Native.Nat.{ℕ, _+_, _*_, _^_, _≤_, _<_}
+use Prim.Native.Nat.{ℕ, _+_, _*_, _^_, _<_}
 use native.Mathlib.Omega.{arith}
 use lib.IntN.{pos, natAbs}
 use lib.ListN.{length}
 use lib.Signed.{nonNeg}
 use Rattle.format.specs.declared.kinds.Kind.{Kind}
 use Rattle.format.specs.Encoding.{startsFrom, shapeBytes, shapeWords}
-use Rattle.format.specs.Lengths.{frontWords}
-use Rattle.format.specs.Lengths
 use Rattle.format.specs.Numbers.{leI32}
 use Rattle.format.specs.Said.{gives}
 use Rattle.format.specs.Shapes.{Parts, parted, there, PartsOf}
@@ -21,8 +19,8 @@ use Rattle.format.proofs.PartsStand.{box-stands, parts-stand, points-stand, sta
 use Rattle.format.proofs.Places.{Stands, all-behind}
 use Rattle.format.proofs.Runs.{run, i32-back}
 use Rattle.multipart.specs.declared.judge.Walk.the-variants.{On}
-use Rattle.multipart.specs.Answers.{Two, countsOf}
-use Rattle.multipart.specs.Body.{partsIn, countsIn, pointsIn}
+use Rattle.multipart.specs.Answers.{countsOf}
+use Rattle.multipart.specs.Body.{partsIn, countsIn}
 use Rattle.multipart.specs.Walks.{PairsWalk}
 use Rattle.multipart.proofs.BodyLaws.{counts-here}
 use Rattle.multipart.proofs.CountLaws

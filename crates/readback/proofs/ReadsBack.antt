@@ -1,5 +1,5 @@
 -- The theorems: reading the encoding of a shape gives that shape, and the stores get its tables, m raised.
-use mathlib.Core.Path.{_≡_, refl, sym, ap, _∙_}
+use mathlib.Core.Path.{_≡_, refl, _∙_}
 use mathlib.Core.Bool.{Bool, true, false}
 use mathlib.Core.List.{List, flatten}
 use mathlib.Core.Option.{Option, some}
@@ -20,7 +20,7 @@ use Rattle.record.specs.Reading.{severalShape, hasM, sizeRight, severalOf}
 use Rattle.record.proofs.ShapeLaws
 use Rattle.rules.specs.Meaning.{TakenKind}
 use Rattle.meaning.proofs.Decode.{if-only}
-use Rattle.readback.specs.ReadBack.{bodyAs, shapedAs, size, RoomFor, ReadsBack, StoresBack}
+use Rattle.readback.specs.ReadBack.{bodyAs, size, RoomFor, ReadsBack, StoresBack}
 use Rattle.readback.proofs.Contents.{code-back, kind-back, read-as}
 use Rattle.readback.proofs.InBody.{LaidOut, xy-are, z-are, m-are, body-said}
 use Rattle.readback.proofs.InMultipoint
