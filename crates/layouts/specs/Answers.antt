@@ -16,7 +16,7 @@ use Rattle.layouts.specs.declared.LayoutAnswer.{LayoutAnswer}
 use Rattle.layouts.specs.declared.LayoutAnswer.the-variants.{Written, Tables, Long, Room}
 use Rattle.layouts.specs.Tables.{severalOf, pointsLent}
 
--- a multipoint has no part counts; xy holds 2n, and z and m hold n where the layout has them, else 0
+-- the part counts sum to n, and a multipoint has none; xy holds 2n, and z and m hold n where the layout has them, else 0
 abbrev pub agree : Bool → Bool → Bool → List ℕ → List Float → List Float → List Float → Bool
 agree parts z m counts xy zs ms =
     let n = pointsLent parts counts xy in
