@@ -75,6 +75,7 @@ pub fn read_counts(s: &[u8], parts: bool) -> CountsAnswer
     if len < 36 {
         return CountsAnswer::Short(32, len - 32);
     }
+    // the number of parts, or else of points
     let p = fields::le_i32_at(s, 32);
     if parts {
         if len < 40 {
