@@ -1,14 +1,12 @@
--- Laws of content lengths and of a kind's form. The constant table beside the kinds holds each kind's formulas: one computed test over the whole table.
+-- Laws of content lengths and of a kind's form.
 use mathlib.Core.Path.{_≡_, refl, sym, ap, ap₂, _∙_, subst}
 use mathlib.Core.Bool.{Bool, true, false, cond, _&&_, _||_, not}
-use mathlib.Core.List.{List, [], _∷_, map}
 use mathlib.Core.Option.{Option, none, some, Option·map}
-use Prim.Native.Nat.{ℕ, zero, suc, _+_, _*_, _^_, _≤_, _<_}
-use native.Mathlib.Nat.{not-suc-le-zero, le-of-suc-le-suc, le-of-lt, lt-of-le-of-lt, mul-le-mul-left, mul-lt-mul-of-pos-right}
+use Prim.Native.Nat.{ℕ, _+_, _*_, _^_, _≤_, _<_}
+use native.Mathlib.Nat.{le-of-lt, lt-of-le-of-lt, mul-le-mul-left, mul-lt-mul-of-pos-right}
 use native.Mathlib.Omega.{arith}
 use lib.Dec.{eqb, ltb}
 use lib.IntN.{ℤ, pos}
-use lib.ListN.{length, getD}
 use lib.Pow.{pow-pos}
 use mir.Syntax.{w32}
 use mir.Val.{SFits, ofZ}
@@ -22,64 +20,48 @@ use Rattle.format.specs.declared.lengths.Formula.{Formula}
 use Rattle.format.specs.declared.lengths.Lengths.{Lengths}
 use Rattle.format.specs.declared.units.Words.{Words}
 use Rattle.format.specs.Kinds.{nullKind, kinds, rowOf, kindAt, kindOr}
-use Rattle.format.specs.Lengths.{Form, nothing, onePoint, manyPoints, parts, isMultipoint, hasSeveral, formOf, formIn, formAt, several, severalForm, frontWords, fixedWords, pointWords, contentWords, lengthsFor, lengthsOf, saidContent, orNotTaken, lengthsIn, contentOf, formulaWords, saidCounted, counted}
-use Rattle.format.specs.Said.{Said, gives, unknown, notTaken, long}
+use Rattle.format.specs.Lengths.{Form, nothing, onePoint, manyPoints, parts, isMultipoint, hasSeveral, formOf, formIn, formAt, several, severalForm, frontWords, fixedWords, pointWords, contentWords, formula, lengthsFor, lengthsOf, saidContent, orNotTaken, lengthsIn, contentOf, formulaWords, saidCounted, counted}
+use Rattle.format.specs.Said.{gives, unknown, notTaken, long}
 use Rattle.format.specs.Shapes.{Shape, null, point, multipoint, parted, OfKind, ownKind}
 use Rattle.format.specs.Units.{sameInt}
 use Rattle.format.proofs.KindLaws.{code-is, of-table}
 use Rattle.format.proofs.UnitLaws.{same-no, by-bits}
 
-abbrev row : ℕ → ℕ → ℕ → ℕ → Content
-row f p fm pm = Taken (record { without = record { fixed = f; point = p }; with = record { fixed = fm; point = pm } })
-
--- the table of src/lengths.rt: without m the fixed words and the words for each point, and with m the same
-unfoldable pub contents : List Content
-contents =
-    row 2 0 2 0
-    ∷ row 10 0 10 0
-    ∷ row 22 8 22 8
-    ∷ row 22 8 22 8
-    ∷ row 20 8 20 8
-    ∷ row 18 0 18 0
-    ∷ row 30 12 38 16
-    ∷ row 30 12 38 16
-    ∷ row 28 12 36 16
-    ∷ row 14 0 14 0
-    ∷ row 22 8 30 12
-    ∷ row 22 8 30 12
-    ∷ row 20 8 28 12
-    ∷ NotTaken (pos 31)
-    ∷ []
-
--- what is said of a row of the kinds
-abbrev rowSaid : Kind → Said Lengths
-rowSaid k = orNotTaken (pos (k .code)) (lengthsOf k)
-
--- the table's rule
-table-right : map rowSaid kinds ≡ map saidContent contents
-unfolding contents kinds lengthsOf formOf isMultipoint fixedWords pointWords
-table-right = refl
-
-map-in : {A B : Type 0} (f : A → B) (l : List A) (i : ℕ) (a : A) (b : B) → i < length l → getD (map f l) i b ≡ f (getD l i a)
-map-in f [] i a b h = absurd (not-suc-le-zero h)
-map-in f (x ∷ l) zero a b h = refl
-map-in f (x ∷ l) (suc i) a b h = map-in f l i a b (le-of-suc-le-suc h)
-
 pub content-none-at : (z : ℤ) → kindAt z ≡ none → unknown z ≡ contentOf z
 unfolding contentOf
 content-none-at z e = ap (lengthsIn z) (sym e)
 
-content-at : (z : ℤ) (k : Kind) → kindAt z ≡ some k → contentOf z ≡ rowSaid k
+content-at : (z : ℤ) (k : Kind) → kindAt z ≡ some k → contentOf z ≡ orNotTaken z (lengthsOf k)
 unfolding contentOf
-content-at z k e = ap (lengthsIn z) e ∙ ap (λ (c : ℤ). orNotTaken c (lengthsOf k)) (code-is z k e)
+content-at z k e = ap (lengthsIn z) e
 
--- the table has at row i what is said of that row of the kinds
-pub content-in : (z : ℤ) (i : ℕ) (k : Kind) (d : Content) → kindAt z ≡ some (getD kinds i k) → i < 14 → saidContent (getD contents i d) ≡ contentOf z
-unfolding kinds contents
-content-in z i k d e h =
-    sym (map-in saidContent contents i d (saidContent d) h)
-    ∙ (ap (λ (l : List (Said Lengths)). getD l i (saidContent d)) (sym table-right)
-    ∙ (map-in rowSaid kinds i k (saidContent d) h ∙ sym (content-at z (getD kinds i k) e)))
+-- no kind of the table is two of Null, a multipoint and in parts
+abbrev plain : Bool → Bool → Bool → Bool
+plain n m p = not (n && m) && not (n && p) && not (m && p)
+
+plain-kind : (z : ℤ) (k : Kind) → kindAt z ≡ some k → plain (eqb (k .code) 0) (isMultipoint k) (k .parts) ≡ true
+unfolding kinds isMultipoint
+plain-kind = of-table (λ (k : Kind). plain (eqb (k .code) 0) (isMultipoint k) (k .parts)) refl
+
+-- of several points, in parts where the flag is set: they may lack m
+abbrev pub severalLengths : Bool → Kind → Lengths
+severalLengths p k = record { without = formula (severalForm p) (k .z) false; with = formula (severalForm p) (k .z) (k .m) }
+
+-- What is said of a kind of the table: its code tells that it is not taken, and that it is Null; of the others it has several points, or one.
+pub content-by : (z : ℤ) (k : Kind) → kindAt z ≡ some k
+    → contentOf z ≡ cond (eqb (k .code) 31) (notTaken z) (gives (cond (eqb (k .code) 0) (lengthsFor k nothing) (cond (hasSeveral k) (severalLengths (k .parts) k) (lengthsFor k onePoint))))
+unfolding lengthsOf formOf
+content-by z k e = content-at z k e ∙ go (eqb (k .code) 31) (eqb (k .code) 0) (isMultipoint k) (k .parts) (plain-kind z k e)
+  where
+    go : (u n m p : Bool) → plain n m p ≡ true
+        → orNotTaken z (Option·map (lengthsFor k) (cond u none (cond n (some nothing) (cond m (some manyPoints) (cond p (some parts) (some onePoint))))))
+        ≡ cond u (notTaken z) (gives (cond n (lengthsFor k nothing) (cond (p || m) (severalLengths p k) (lengthsFor k onePoint))))
+    go true n m p t = refl
+    go false true m p t = refl
+    go false false true true t = absurd (let z : _≡_ {A = ℕ} 0 1 = cc in omega arith)
+    go false false true false t = refl
+    go false false false true t = refl
+    go false false false false t = refl
 
 -- ---- the form of a kind: its lengths are those of its form, and a taken kind has the one that its code and flags say
 
@@ -104,23 +86,23 @@ module _ (k : Kind) where
       go false false false true e = cc
       go false false false false e = cc
 
-  -- as the table beside the kinds says it
+  -- as `lengths_of` says it
   module _ (z : ℤ) (e : kindAt z ≡ some k) (c : Content) (f : saidContent c ≡ contentOf z) where
-    said : (c′ : Content) → c ≡ c′ → saidContent c′ ≡ rowSaid k
+    said : (c′ : Content) → c ≡ c′ → saidContent c′ ≡ orNotTaken z (lengthsOf k)
     said c′ g = ap saidContent (sym g) ∙ (f ∙ content-at z k e)
 
     pub content-none : (code : ℤ) → c ≡ NotTaken code → formOf k ≡ none
     unfolding lengthsOf
     content-none code g = go (formOf k) (said (NotTaken code) g)
       where
-        go : (o : Option Form) → notTaken code ≡ orNotTaken (pos (k .code)) (Option·map (lengthsFor k) o) → o ≡ none
+        go : (o : Option Form) → notTaken code ≡ orNotTaken z (Option·map (lengthsFor k) o) → o ≡ none
         go none q = refl
         go (some form) q = absurd (let z : _≡_ {A = ℕ} 0 1 = cc in omega arith)
 
     pub content-some : (l : Lengths) → c ≡ Taken l → lengthsOf k ≡ some l
     content-some l g = go (lengthsOf k) (said (Taken l) g)
       where
-        go : (o : Option Lengths) → gives l ≡ orNotTaken (pos (k .code)) o → o ≡ some l
+        go : (o : Option Lengths) → gives l ≡ orNotTaken z o → o ≡ some l
         go none q = absurd (let z : _≡_ {A = ℕ} 0 1 = cc in omega arith)
         go (some x) q = cc
 
@@ -128,7 +110,7 @@ module _ (k : Kind) where
     pub content-known : (code : ℤ) → c ≡ Unknown code → ⊥
     content-known code g = go (lengthsOf k) (said (Unknown code) g)
       where
-        go : (o : Option Lengths) → unknown code ≡ orNotTaken (pos (k .code)) o → ⊥
+        go : (o : Option Lengths) → unknown code ≡ orNotTaken z o → ⊥
         go none q = let z : _≡_ {A = ℕ} 4 9 = cc in omega arith
         go (some x) q = let z : _≡_ {A = ℕ} 0 1 = cc in omega arith
 
@@ -162,15 +144,10 @@ Flags k onePoint = Told k false false false
 Flags k manyPoints = Told k false true false
 Flags k parts = Told k false false true
 
--- no kind is two of them
-abbrev plain : Kind → Bool
-plain k = not (eqb (k .code) 0 && isMultipoint k) && not (eqb (k .code) 0 && k .parts) && not (isMultipoint k && k .parts)
-
 pub form-flags : (z : ℤ) (k : Kind) (f : Form) → kindAt z ≡ some k → formOf k ≡ some f → Flags k f
-unfolding kinds isMultipoint
-form-flags z k f h e = go (eqb (k .code) 0) (isMultipoint k) (k .parts) refl refl refl (of-table plain refl z k h) (form-by k f e)
+form-flags z k f h e = go (eqb (k .code) 0) (isMultipoint k) (k .parts) refl refl refl (plain-kind z k h) (form-by k f e)
   where
-    go : (n m p : Bool) → eqb (k .code) 0 ≡ n → isMultipoint k ≡ m → k .parts ≡ p → (not (n && m) && not (n && p) && not (m && p)) ≡ true
+    go : (n m p : Bool) → eqb (k .code) 0 ≡ n → isMultipoint k ≡ m → k .parts ≡ p → plain n m p ≡ true
         → f ≡ cond n nothing (cond m manyPoints (cond p parts onePoint)) → Flags k f
     go true true p a b c t e = absurd (let z : _≡_ {A = ℕ} 0 1 = cc in omega arith)
     go true false true a b c t e = absurd (let z : _≡_ {A = ℕ} 0 1 = cc in omega arith)

@@ -11,6 +11,7 @@ pub mod KindLaws
 pub mod Laid
 pub mod LayoutLaws
 pub mod LengthLaws
+mod LengthTable
 pub mod MultipointStands
 pub mod NanLaws
 pub mod NumberLaws
