@@ -231,7 +231,8 @@ fn show_kind(code: i32) {
 // A body of the first n bytes, read without z and without m: the parts, the points and the first two counts.
 fn show_body(s: &[u8], n: usize) {
     let mut counts = [9u32; 4];
-    let mut xy = [0.5; 16];
+    let mut xs = [0.5; 8];
+    let mut ys = [0.5; 8];
     let mut none = [0.0; 1];
     let mut more = [0.0; 1];
     if s.len() < n {
@@ -243,7 +244,8 @@ fn show_body(s: &[u8], n: usize) {
         false,
         false,
         &mut counts,
-        &mut xy,
+        &mut xs,
+        &mut ys,
         &mut none,
         &mut more,
     ) {
@@ -313,13 +315,13 @@ fn bodies() {
 
 // ---- rings
 
-fn show_ring(xy: &[f64]) {
-    match rings::is_part_closed(xy) {
+fn show_ring(xs: &[f64], ys: &[f64], n: usize) {
+    match rings::is_part_closed(xs, ys, n) {
         ClosedAnswer::Closed => say(b" closed"),
         ClosedAnswer::Open => say(b" open"),
         ClosedAnswer::Tables => say(b" 10"),
     }
-    match rings::ring_type_from_points_ordering(xy) {
+    match rings::ring_type_from_points_ordering(xs, ys, n) {
         RingAnswer::OuterRing => say(b" outer"),
         RingAnswer::InnerRing => say(b" inner"),
         RingAnswer::Tables => say(b" 10"),
@@ -327,13 +329,13 @@ fn show_ring(xy: &[f64]) {
     end();
 }
 
-fn show_close(store: &mut [f64], run: usize) {
-    match rings::close_points_if_not_already(store, run) {
-        CloseAnswer::Points(n) => number(n as u64),
+fn show_close(xs: &mut [f64], ys: &mut [f64], n: usize) {
+    match rings::close_points_if_not_already(xs, ys, n) {
+        CloseAnswer::Points(k) => number(k as u64),
         CloseAnswer::Tables => say(b" 10 0"),
-        CloseAnswer::Room(n) => {
+        CloseAnswer::Room(k) => {
             say(b" 6 0");
-            number(n as u64);
+            number(k as u64);
         }
     }
     end();
@@ -341,23 +343,29 @@ fn show_close(store: &mut [f64], run: usize) {
 
 fn ring_examples() {
     say(b"square:");
-    show_ring(&[0.0, 0.0, 0.0, 1.0, 1.0, 1.0, 1.0, 0.0, 0.0, 0.0]);
+    show_ring(&[0.0, 0.0, 1.0, 1.0, 0.0], &[0.0, 1.0, 1.0, 0.0, 0.0], 5);
     say(b"reversed:");
-    show_ring(&[0.0, 0.0, 1.0, 0.0, 1.0, 1.0, 0.0, 1.0, 0.0, 0.0]);
+    show_ring(&[0.0, 1.0, 1.0, 0.0, 0.0], &[0.0, 0.0, 1.0, 1.0, 0.0], 5);
+    say(b"no point:");
+    show_ring(&[0.0], &[0.0], 0);
     say(b"halving:");
-    show_ring(&[0.0, 0.0, -5.0e-324, 1.0]);
-    say(b"odd:");
-    show_ring(&[0.0, 0.0, 1.0]);
-    let mut store = [0.0, 0.0, 0.0, 1.0, 1.0, 1.0, 9.0, 9.0];
+    show_ring(&[0.0, -5.0e-324], &[0.0, 1.0], 2);
+    say(b"past the store of y:");
+    show_ring(&[0.0, 1.0], &[0.0], 2);
+    let mut xs = [0.0, 0.0, 1.0, 9.0];
+    let mut ys = [0.0, 1.0, 1.0, 9.0];
     say(b"closing 3 points:");
-    show_close(&mut store, 6);
+    show_close(&mut xs, &mut ys, 3);
     say(b"closing them again:");
-    show_close(&mut store, 8);
+    show_close(&mut xs, &mut ys, 4);
     say(b"closing with no room:");
-    store[6] = 7.0;
-    show_close(&mut store, 8);
-    say(b"closing an odd run with no room:");
-    show_close(&mut store, 7);
+    xs[3] = 7.0;
+    show_close(&mut xs, &mut ys, 4);
+    let mut three = [0.0, 1.0, 1.0];
+    say(b"closing with no room for y:");
+    show_close(&mut xs, &mut three, 3);
+    say(b"closing a run past the store of y:");
+    show_close(&mut xs, &mut three, 4);
 }
 
 fn main() {

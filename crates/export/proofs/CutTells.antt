@@ -26,6 +26,6 @@ cut-tells readHeader s = inside headerWidth s (headerOf s) (header-placed s)
 cut-tells readRecordHeader s = inside (λ at. 4) s (twoOf recordHeader s) (two-placed recordHeader s)
 cut-tells readIndexEntry s = inside (λ at. 4) s (twoOf shapeIndex s) (two-placed shapeIndex s)
 cut-tells (readCounts parts) s = inside (bodyWidth parts s) s (countsOf parts s) (counts-placed parts s)
-cut-tells (readBody parts z m counts xy zs ms) s = inside (bodyWidth parts s) s (bodyOf parts z m s counts xy zs ms) (body-placed parts z m s counts xy zs ms)
-cut-tells (readRecord wanted size counts xy zs ms) s =
-    inside (contentWidth (formAt (codeIn s)) s) s (recordOf wanted size s counts xy zs ms) (record-placed wanted size s counts xy zs ms)
+cut-tells (readBody parts z m counts xs ys zs ms) s = inside (bodyWidth parts s) s (bodyOf parts z m s counts xs ys zs ms) (body-placed parts z m s counts xs ys zs ms)
+cut-tells (readRecord wanted size counts xs ys zs ms) s =
+    inside (contentWidth (formAt (codeIn s)) s) s (recordOf wanted size s counts xs ys zs ms) (record-placed wanted size s counts xs ys zs ms)

@@ -27,11 +27,11 @@ number-tells =
       header = λ s. tells (headerOf s) (header-numbered s);
       record-header = λ s. tells (twoOf recordHeader s) (two-numbered recordHeader s);
       index-entry = λ s. tells (twoOf shapeIndex s) (two-numbered shapeIndex s);
-      reading = λ wanted size s counts xy zs ms. tells (recordOf wanted size s counts xy zs ms) (record-numbered wanted size s counts xy zs ms);
+      reading = λ wanted size s counts xs ys zs ms. tells (recordOf wanted size s counts xs ys zs ms) (record-numbered wanted size s counts xs ys zs ms);
       pair = λ shp shx. tells (verdict shp shx) (verdict-numbered shp shx);
       adding = λ s t out start entry. tells (addingOf s t out start entry) (adding-numbered s t out start entry);
       finishing = λ s. tells (finishingOf s) (finishing-numbered s);
-      closed = λ xy. tells (closedOf xy) (closed-numbered xy);
-      turning = λ xy. tells (turningOf xy) (turning-numbered xy);
-      closing = λ store run. tells (closingOf store run) (closing-numbered store run);
+      closed = λ xs ys n. tells (closedOf xs ys n) (closed-numbered xs ys n);
+      turning = λ xs ys n. tells (turningOf xs ys n) (turning-numbered xs ys n);
+      closing = λ xs ys n. tells (closingOf xs ys n) (closing-numbered xs ys n);
     }

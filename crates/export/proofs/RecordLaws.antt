@@ -16,13 +16,14 @@ use Rattle.export.specs.Records.{recordRead, asBytes, Reads}
 stores : {A : Type 0} (said said′ : Said Shaped) (store : List A) (values : Bool → List A) → said ≡ said′ → stored said store values ≡ stored said′ store values
 stores said said′ store values e = ap (λ (x : Said Shaped). stored x store values) e
 
-module _ (wanted : Wanted) (size : ℤ) (s counts : List ℕ) (xy zs ms : List Float) where
-  pub reads : (a : RecordAnswer) (counts′ : List ℕ) (xy′ zs′ ms′ : List Float) (r : RecordRead) → r ≡ recordRead (saidRecord a) → ReadsRecord wanted (asBytes size) s counts xy zs ms a counts′ xy′ zs′ ms′ → Reads wanted size s counts xy zs ms r counts′ xy′ zs′ ms′
-  reads a counts′ xy′ zs′ ms′ r e h =
+module _ (wanted : Wanted) (size : ℤ) (s counts : List ℕ) (xs ys zs ms : List Float) where
+  pub reads : (a : RecordAnswer) (counts′ : List ℕ) (xs′ ys′ zs′ ms′ : List Float) (r : RecordRead) → r ≡ recordRead (saidRecord a) → ReadsRecord wanted (asBytes size) s counts xs ys zs ms a counts′ xs′ ys′ zs′ ms′ → Reads wanted size s counts xs ys zs ms r counts′ xs′ ys′ zs′ ms′
+  reads a counts′ xs′ ys′ zs′ ms′ r e h =
       record {
         answer-is = e ∙ ap recordRead (h .says);
         counts-are = h .counts-are ∙ stores (saidRecord a) _ counts _ (h .says);
-        xy-are = h .xy-are ∙ stores (saidRecord a) _ xy _ (h .says);
+        x-are = h .x-are ∙ stores (saidRecord a) _ xs _ (h .says);
+        y-are = h .y-are ∙ stores (saidRecord a) _ ys _ (h .says);
         z-are = h .z-are ∙ stores (saidRecord a) _ zs _ (h .says);
         m-are = h .m-are ∙ stores (saidRecord a) _ ms _ (h .says);
       }

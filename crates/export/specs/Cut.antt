@@ -21,8 +21,8 @@ pub data Call : Type 0 where
   readRecordHeader : Call
   readIndexEntry : Call
   readCounts : (parts : Bool) → Call
-  readBody : (parts z m : Bool) (counts xy zs ms : ℕ) → Call
-  readRecord : (wanted : Wanted) (size : Bytes) (counts xy zs ms : ℕ) → Call
+  readBody : (parts z m : Bool) (counts xs ys zs ms : ℕ) → Call
+  readRecord : (wanted : Wanted) (size : Bytes) (counts xs ys zs ms : ℕ) → Call
 
 -- its refusal of these bytes
 abbrev pub refusalFrom : Call → List ℕ → Refusal
@@ -30,8 +30,8 @@ refusalFrom readHeader s = refusalOf (headerOf s)
 refusalFrom readRecordHeader s = refusalOf (twoOf recordHeader s)
 refusalFrom readIndexEntry s = refusalOf (twoOf shapeIndex s)
 refusalFrom (readCounts parts) s = refusalOf (countsOf parts s)
-refusalFrom (readBody parts z m counts xy zs ms) s = refusalOf (bodyOf parts z m s counts xy zs ms)
-refusalFrom (readRecord wanted size counts xy zs ms) s = refusalOf (recordOf wanted size s counts xy zs ms)
+refusalFrom (readBody parts z m counts xs ys zs ms) s = refusalOf (bodyOf parts z m s counts xs ys zs ms)
+refusalFrom (readRecord wanted size counts xs ys zs ms) s = refusalOf (recordOf wanted size s counts xs ys zs ms)
 
 -- how wide the field at a place of them is
 abbrev pub widthAt : Call → List ℕ → ℕ → ℕ
@@ -39,8 +39,8 @@ widthAt readHeader s at = headerWidth at
 widthAt readRecordHeader s at = 4
 widthAt readIndexEntry s at = 4
 widthAt (readCounts parts) s at = bodyWidth parts s at
-widthAt (readBody parts z m counts xy zs ms) s at = bodyWidth parts s at
-widthAt (readRecord wanted size counts xy zs ms) s at = contentWidth (formAt (codeIn s)) s at
+widthAt (readBody parts z m counts xs ys zs ms) s at = bodyWidth parts s at
+widthAt (readRecord wanted size counts xs ys zs ms) s at = contentWidth (formAt (codeIn s)) s at
 
 -- the bytes end inside the field that the refusal names: what it counts are the last of the bytes, and fewer than the field has
 pub record EndsInField (width : ℕ → ℕ) (s : List ℕ) (r : Refusal) : Type 0 where

@@ -9,7 +9,7 @@ use lib.ListN.{length, drop}
 use Rattle.format.specs.declared.units.Bytes.{Bytes}
 use Rattle.format.specs.Said.{Said}
 use Rattle.multipart.specs.declared.Body.{Body}
-use Rattle.multipart.specs.Body.{noRange, countsIn, xyIn, zIn, mIn}
+use Rattle.multipart.specs.Body.{noRange, countsIn, xIn, yIn, zIn, mIn}
 use Rattle.record.specs.declared.Point.{Point}
 use Rattle.record.specs.declared.Wanted.{Wanted}
 use Rattle.record.specs.Reading.{Shaped, nullShape, pointShape, multipointShape, partsShape, kindIn, recordOf, stored}
@@ -54,12 +54,13 @@ abbrev pub asBytes : ℤ → Bytes
 asBytes size = record { 0 = size }
 
 -- what reading says, with these stores
-abbrev pub saidOf : Wanted → ℤ → List ℕ → List ℕ → List Float → List Float → List Float → Said Shaped
-saidOf wanted size s counts xy zs ms = recordOf wanted (asBytes size) s (length counts) (length xy) (length zs) (length ms)
+abbrev pub saidOf : Wanted → ℤ → List ℕ → List ℕ → List Float → List Float → List Float → List Float → Said Shaped
+saidOf wanted size s counts xs ys zs ms = recordOf wanted (asBytes size) s (length counts) (length xs) (length ys) (length zs) (length ms)
 
-pub record Reads (wanted : Wanted) (size : ℤ) (s counts : List ℕ) (xy zs ms : List Float) (r : RecordRead) (counts′ : List ℕ) (xy′ zs′ ms′ : List Float) : Type 0 where
-  pub answer-is : r ≡ recordRead (saidOf wanted size s counts xy zs ms)
-  pub counts-are : counts′ ≡ stored (saidOf wanted size s counts xy zs ms) counts (λ m. countsIn (kindIn s .parts) (drop 4 s))
-  pub xy-are : xy′ ≡ stored (saidOf wanted size s counts xy zs ms) xy (λ m. xyIn (kindIn s .parts) (drop 4 s))
-  pub z-are : zs′ ≡ stored (saidOf wanted size s counts xy zs ms) zs (λ m. zIn (kindIn s .parts) (kindIn s .z) (drop 4 s))
-  pub m-are : ms′ ≡ stored (saidOf wanted size s counts xy zs ms) ms (λ m. mIn (kindIn s .parts) (kindIn s .z) m (drop 4 s))
+pub record Reads (wanted : Wanted) (size : ℤ) (s counts : List ℕ) (xs ys zs ms : List Float) (r : RecordRead) (counts′ : List ℕ) (xs′ ys′ zs′ ms′ : List Float) : Type 0 where
+  pub answer-is : r ≡ recordRead (saidOf wanted size s counts xs ys zs ms)
+  pub counts-are : counts′ ≡ stored (saidOf wanted size s counts xs ys zs ms) counts (λ m. countsIn (kindIn s .parts) (drop 4 s))
+  pub x-are : xs′ ≡ stored (saidOf wanted size s counts xs ys zs ms) xs (λ m. xIn (kindIn s .parts) (drop 4 s))
+  pub y-are : ys′ ≡ stored (saidOf wanted size s counts xs ys zs ms) ys (λ m. yIn (kindIn s .parts) (drop 4 s))
+  pub z-are : zs′ ≡ stored (saidOf wanted size s counts xs ys zs ms) zs (λ m. zIn (kindIn s .parts) (kindIn s .z) (drop 4 s))
+  pub m-are : ms′ ≡ stored (saidOf wanted size s counts xs ys zs ms) ms (λ m. mIn (kindIn s .parts) (kindIn s .z) m (drop 4 s))

@@ -4,8 +4,8 @@ use mathlib.Core.Bool.{Bool, false, cond}
 use mathlib.Core.List.{List}
 use Prim.Native.Nat.{ℕ}
 use lib.Ieee.{Float}
-use Rattle.format.specs.Said.{Said}
-use Rattle.rings.specs.Answers.{closingOf, storeThen}
+use Rattle.format.specs.Said.{Said, unlessRefused}
+use Rattle.rings.specs.Answers.{closingOf, xThen, yThen}
 use Rattle.rings.specs.Points.{Turning, outer, inner}
 use Rattle.export.specs.declared.refusals.Refusal.{Refusal}
 use Rattle.export.specs.declared.runs.Told.{Told}
@@ -30,6 +30,7 @@ turningTold said = told (refusalOf said) (turningNumber (orElse outer said))
 abbrev pub closingTold : Said ℕ → Told
 closingTold said = told (refusalOf said) (orElse 0 said)
 
-pub record ClosesRun (store : List Float) (run : ℕ) (r : Told) (after : List Float) : Type 0 where
-  pub answer-is : r ≡ closingTold (closingOf store run)
-  pub store-is : after ≡ storeThen store run
+pub record ClosesRun (xs ys : List Float) (n : ℕ) (r : Told) (xs′ ys′ : List Float) : Type 0 where
+  pub answer-is : r ≡ closingTold (closingOf xs ys n)
+  pub x-is : xs′ ≡ unlessRefused (closingOf xs ys n) xs (xThen xs ys n)
+  pub y-is : ys′ ≡ unlessRefused (closingOf xs ys n) ys (yThen xs ys n)

@@ -128,13 +128,14 @@ pub extern "C" fn mbenaruul_read_record(
     content: &[u8],
     size: i64,
     counts: &mut [u32],
-    xy: &mut [f64],
+    x: &mut [f64],
+    y: &mut [f64],
     z: &mut [f64],
     m: &mut [f64],
 ) -> RecordRead
-    ensures { λ r. ⌜ Reads Any size (now (content .entry)) (now (counts .entry)) (now (xy .entry)) (now (z .entry)) (now (m .entry)) r (now (counts .exit)) (now (xy .exit)) (now (z .exit)) (now (m .exit)) ⌝ }
+    ensures { λ r. ⌜ Reads Any size (now (content .entry)) (now (counts .entry)) (now (x .entry)) (now (y .entry)) (now (z .entry)) (now (m .entry)) r (now (counts .exit)) (now (x .exit)) (now (y .exit)) (now (z .exit)) (now (m .exit)) ⌝ }
 {
-    record_read(record::read_record(content, Bytes(size), Wanted::Any, counts, xy, z, m))
+    record_read(record::read_record(content, Bytes(size), Wanted::Any, counts, x, y, z, m))
 }
 
 // One kind only.
@@ -144,11 +145,21 @@ pub extern "C" fn mbenaruul_read_record_of(
     content: &[u8],
     size: i64,
     counts: &mut [u32],
-    xy: &mut [f64],
+    x: &mut [f64],
+    y: &mut [f64],
     z: &mut [f64],
     m: &mut [f64],
 ) -> RecordRead
-    ensures { λ r. ⌜ Reads (Kind wanted) size (now (content .entry)) (now (counts .entry)) (now (xy .entry)) (now (z .entry)) (now (m .entry)) r (now (counts .exit)) (now (xy .exit)) (now (z .exit)) (now (m .exit)) ⌝ }
+    ensures { λ r. ⌜ Reads (Kind wanted) size (now (content .entry)) (now (counts .entry)) (now (x .entry)) (now (y .entry)) (now (z .entry)) (now (m .entry)) r (now (counts .exit)) (now (x .exit)) (now (y .exit)) (now (z .exit)) (now (m .exit)) ⌝ }
 {
-    record_read(record::read_record(content, Bytes(size), Wanted::Kind(wanted), counts, xy, z, m))
+    record_read(record::read_record(
+        content,
+        Bytes(size),
+        Wanted::Kind(wanted),
+        counts,
+        x,
+        y,
+        z,
+        m,
+    ))
 }

@@ -1,4 +1,4 @@
-// Runs of points x0 y0 x1 y1 ..: whether one is closed, which way it turns, and closing it.
+// Runs of points, the first n of a store of x and of one of y: whether one is closed, which way it turns, and closing it.
 ghost use mathlib.Core.Path.{_≡_};
 ghost use Rattle.rings.specs.Answers.{saidClosed, saidTurning, saidClosing, closedOf, turningOf};
 ghost use Rattle.export.specs.Refusals.{notRefused};
@@ -65,22 +65,26 @@ fn closing_told(a: CloseAnswer) -> Told
 }
 
 #[no_mangle]
-pub extern "C" fn mbenaruul_is_part_closed(xy: &[f64]) -> Told
-    ensures { λ r. ⌜ r ≡ closedTold (closedOf (now (xy .entry))) ⌝ }
+pub extern "C" fn mbenaruul_is_part_closed(x: &[f64], y: &[f64], n: usize) -> Told
+    ensures { λ r. ⌜ r ≡ closedTold (closedOf (now (x .entry)) (now (y .entry)) n) ⌝ }
 {
-    closed_told(rings::is_part_closed(xy))
+    closed_told(rings::is_part_closed(x, y, n))
 }
 
 #[no_mangle]
-pub extern "C" fn mbenaruul_ring_type_from_points_ordering(xy: &[f64]) -> Told
-    ensures { λ r. ⌜ r ≡ turningTold (turningOf (now (xy .entry))) ⌝ }
+pub extern "C" fn mbenaruul_ring_type_from_points_ordering(x: &[f64], y: &[f64], n: usize) -> Told
+    ensures { λ r. ⌜ r ≡ turningTold (turningOf (now (x .entry)) (now (y .entry)) n) ⌝ }
 {
-    turning_told(rings::ring_type_from_points_ordering(xy))
+    turning_told(rings::ring_type_from_points_ordering(x, y, n))
 }
 
 #[no_mangle]
-pub extern "C" fn mbenaruul_close_points_if_not_already(store: &mut [f64], run: usize) -> Told
-    ensures { λ r. ⌜ ClosesRun (now (store .entry)) run r (now (store .exit)) ⌝ }
+pub extern "C" fn mbenaruul_close_points_if_not_already(
+    x: &mut [f64],
+    y: &mut [f64],
+    n: usize,
+) -> Told
+    ensures { λ r. ⌜ ClosesRun (now (x .entry)) (now (y .entry)) n r (now (x .exit)) (now (y .exit)) ⌝ }
 {
-    closing_told(rings::close_points_if_not_already(store, run))
+    closing_told(rings::close_points_if_not_already(x, y, n))
 }

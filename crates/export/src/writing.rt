@@ -84,16 +84,17 @@ pub extern "C" fn mbenaruul_add_record(
     code: i32,
     bbox: BBoxZ,
     counts: &[u32],
-    xy: &[f64],
+    x: &[f64],
+    y: &[f64],
     z: &[f64],
     m: &[f64],
     out: &mut [u8],
     start: usize,
     entry: &mut [u8],
 ) -> Added
-    ensures { λ r. ⌜ AddsRecord state (lent code bbox (now (counts .entry)) (now (xy .entry)) (now (z .entry)) (now (m .entry))) (now (out .entry)) start (now (entry .entry)) r (now (out .exit)) (now (entry .exit)) ⌝ }
+    ensures { λ r. ⌜ AddsRecord state (lent code bbox (now (counts .entry)) (now (x .entry)) (now (y .entry)) (now (z .entry)) (now (m .entry))) (now (out .entry)) start (now (entry .entry)) r (now (out .exit)) (now (entry .exit)) ⌝ }
 {
-    let r = writer::add_record(state, code, bbox, counts, xy, z, m, out, start, entry);
+    let r = writer::add_record(state, code, bbox, counts, x, y, z, m, out, start, entry);
     let answer = r.answer;
     let after = r.state;
     add_answer(answer, after)
@@ -106,17 +107,18 @@ pub extern "C" fn mbenaruul_write_shape(
     code: i32,
     bbox: BBoxZ,
     counts: &[u32],
-    xy: &[f64],
+    x: &[f64],
+    y: &[f64],
     z: &[f64],
     m: &[f64],
     out: &mut [u8],
     start: usize,
     entry: &mut [u8],
 ) -> Written
-    ensures { λ r. ⌜ AddsRecord (now (state .entry)) (lent code bbox (now (counts .entry)) (now (xy .entry)) (now (z .entry)) (now (m .entry))) (now (out .entry)) start (now (entry .entry)) (addedWith r (now (state .exit))) (now (out .exit)) (now (entry .exit)) ⌝ }
+    ensures { λ r. ⌜ AddsRecord (now (state .entry)) (lent code bbox (now (counts .entry)) (now (x .entry)) (now (y .entry)) (now (z .entry)) (now (m .entry))) (now (out .entry)) start (now (entry .entry)) (addedWith r (now (state .exit))) (now (out .exit)) (now (entry .exit)) ⌝ }
 {
     let s = *state;
-    let r = mbenaruul_add_record(s, code, bbox, counts, xy, z, m, out, start, entry);
+    let r = mbenaruul_add_record(s, code, bbox, counts, x, y, z, m, out, start, entry);
     *state = r.state;
     Written {
         refusal: r.refusal,

@@ -11,11 +11,11 @@ use lib.Pow.{pow-add, pow-mono}
 use lib.ListN.{length, getD, drop, set}
 use lib.Seq.{sets, drop-cons}
 use Rattle.format.specs.Bytes.{le, be, leBytes, beBytes, field}
-use Rattle.format.specs.Numbers.{leF64, doublesAt, f64Le, f64sLe}
+use Rattle.format.specs.Numbers.{f64Le, f64sLe}
 use Rattle.format.proofs.ByteLaws.{le-more, be-more, sets-be}
 use Rattle.format.proofs.Equations.{leBytes-suc, f64sLe-cons}
 use Rattle.format.proofs.LayoutLaws.{sets-append}
-use Rattle.format.proofs.NumberLaws.{length-f64Le, doubles-on}
+use Rattle.format.proofs.NumberLaws.{length-f64Le}
 
 -- ---- reading a number, the high digit first
 
@@ -56,9 +56,6 @@ put-be-turn l at i v h =
     sym (ap (λ (m : ℕ). sets l at (beBytes m v)) a ∙ sets-be l (i - 1) at v)
 
 -- ---- runs of doubles
-
-pub read-turn : (out : List Float) (n at i : ℕ) (s : List ℕ) → i < n → sets (set out i (leF64 (at + 8 * i) s)) (i + 1) (doublesAt (n - (i + 1)) (at + 8 * (i + 1)) s) ≡ sets out i (doublesAt (n - i) (at + 8 * i) s)
-read-turn out n at i s h = rw (doubles-on n at i s h, add-one)
 
 pub write-turn : (out : List ℕ) (at i : ℕ) (xs : List Float) (d : Float) → i < length xs → sets (sets out (at + 8 * i) (f64Le (getD xs i d))) (at + 8 * (i + 1)) (f64sLe (drop (i + 1) xs)) ≡ sets out (at + 8 * i) (f64sLe (drop i xs))
 write-turn out at i xs d h =

@@ -217,7 +217,7 @@ pub fn put_le_f64(out: &mut [u8], at: usize, x: f64)
 // As many doubles as out has, from a place on.
 pub fn read_doubles(s: &[u8], at: usize, out: &mut [f64])
     requires { ⌜ at + 8 * length (now out) ≤ length (now s) ⌝ }
-    ensures { λ _. ⌜ now (out .exit) ≡ doublesAt (length (now (out .entry))) at (now (s .entry)) ⌝ }
+    ensures { λ _. ⌜ now (out .exit) ≡ doublesAt 8 (length (now (out .entry))) at (now (s .entry)) ⌝ }
 {
     let mut i = 0;
     while i < out.len() {

@@ -2,12 +2,14 @@
 use mathlib.Core.Path.{_≡_, refl, sym, ap, _∙_}
 use mathlib.Core.List.{List, [], _∷_, _++_, map, flatten, append-assoc, map-map}
 use Prim.Native.Nat.{ℕ, zero, suc, _+_, _*_, _-_, _^_, _≤_, _<_}
+use native.Mathlib.Nat.{mul-suc}
+use native.Mathlib.Numerals.{add-one}
 use native.Mathlib.Omega.{arith}
 use lib.Dec.{T}
 use lib.Ieee.{Float, binary64, ofBits, ofInt, toBits, fits}
 use lib.Ieee.Bits.{ofBits-toBits, toBits-lt, ofBits-fits}
 use lib.IntN.{ℤ, pos}
-use lib.ListN.{length, getD, length-append}
+use lib.ListN.{length, getD, set, length-append}
 use lib.Seq.{sets}
 use mir.Syntax.{w32}
 use mir.Val.{SFits, toZ, ofZ}
@@ -54,10 +56,10 @@ unfolding f64sLe flatten
 length-f64sLe [] = refl
 length-f64sLe (x ∷ xs) = length-append (f64Le x) (flatten (map f64Le xs)) ∙ omega (arith, length-f64Le x, length-f64sLe xs)
 
-pub length-doublesAt : (n at : ℕ) (s : List ℕ) → length (doublesAt n at s) ≡ n
+pub length-doublesAt : (step n at : ℕ) (s : List ℕ) → length (doublesAt step n at s) ≡ n
 unfolding doublesAt
-length-doublesAt zero at s = refl
-length-doublesAt (suc n) at s = ap suc (length-doublesAt n (at + 8) s)
+length-doublesAt step zero at s = refl
+length-doublesAt step (suc n) at s = ap suc (length-doublesAt step n (at + step) s)
 
 -- ---- runs of doubles, and two numbers
 
@@ -71,25 +73,44 @@ pub doubles-bits : (xs : List Float) → doubles (map (toBits binary64) xs) ≡ 
 unfolding doubles f64sLe f64Le
 doubles-bits xs = ap flatten (map-map _ (toBits binary64) xs)
 
--- double i, and those from i on
-pub doubles-at : (n at : ℕ) (s : List ℕ) (i : ℕ) (d : Float) → i < n → getD (doublesAt n at s) i d ≡ leF64 (at + 8 * i) s
-unfolding doublesAt
-doubles-at zero at s i d h = absurd (omega arith)
-doubles-at (suc n) at s zero d h = ap (λ (a : ℕ). leF64 a s) (omega arith)
-doubles-at (suc n) at s (suc i) d h = doubles-at n (at + 8) s i d (omega arith) ∙ ap (λ (a : ℕ). leF64 a s) (omega arith)
+-- one and the others
+module _ (step : ℕ) where
+  pub doublesAt-zero : (at : ℕ) (s : List ℕ) → doublesAt step 0 at s ≡ []
+  unfolding doublesAt
+  doublesAt-zero at s = refl
 
-pub doubles-on : (n at i : ℕ) (s : List ℕ) → i < n → doublesAt (n - i) (at + 8 * i) s ≡ leF64 (at + 8 * i) s ∷ doublesAt (n - (i + 1)) (at + 8 * (i + 1)) s
+  pub doublesAt-suc : (n at : ℕ) (s : List ℕ) → doublesAt step (suc n) at s ≡ leF64 at s ∷ doublesAt step n (at + step) s
+  unfolding doublesAt
+  doublesAt-suc n at s = refl
+
+-- double i, and those from i on
+pub doubles-at : (step n at : ℕ) (s : List ℕ) (i : ℕ) (d : Float) → i < n → getD (doublesAt step n at s) i d ≡ leF64 (at + step * i) s
 unfolding doublesAt
-doubles-on n at i s h =
+doubles-at step zero at s i d h = absurd (omega arith)
+doubles-at step (suc n) at s zero d h = ap (λ (a : ℕ). leF64 a s) (omega arith)
+doubles-at step (suc n) at s (suc i) d h =
+    doubles-at step n (at + step) s i d (omega arith) ∙ ap (λ (a : ℕ). leF64 a s) (omega (arith, mul-suc step i))
+
+pub doubles-on : (step n at i : ℕ) (s : List ℕ) → i < n → doublesAt step (n - i) (at + step * i) s ≡ leF64 (at + step * i) s ∷ doublesAt step (n - (i + 1)) (at + step * (i + 1)) s
+unfolding doublesAt
+doubles-on step n at i s h =
     let a : n - i ≡ suc (n - (i + 1)) = omega arith in
-    let b : at + 8 * (i + 1) ≡ at + 8 * i + 8 = omega arith in
+    let b : at + step * (i + 1) ≡ at + step * i + step = rw add-one (omega (arith, mul-suc step i)) in
     rw (a, b)
 
-pub doubles-end : (n at i : ℕ) (s : List ℕ) → n ≤ i → doublesAt (n - i) at s ≡ []
+pub doubles-end : (step n at i : ℕ) (s : List ℕ) → n ≤ i → doublesAt step (n - i) at s ≡ []
 unfolding doublesAt
-doubles-end n at i s h =
+doubles-end step n at i s h =
     let z : n - i ≡ 0 = omega arith in
     rw z
+
+-- one turn of a loop that stores them, and behind the last of them
+module _ (step : ℕ) (out : List Float) (n at i : ℕ) (s : List ℕ) where
+  pub doubles-turn : i < n → sets (set out i (leF64 (at + step * i) s)) (i + 1) (doublesAt step (n - (i + 1)) (at + step * (i + 1)) s) ≡ sets out i (doublesAt step (n - i) (at + step * i) s)
+  doubles-turn h = rw (doubles-on step n at i s h, add-one)
+
+  pub doubles-over : n ≤ i → sets out i (doublesAt step (n - i) at s) ≡ out
+  doubles-over h = rw (doubles-end step n at i s h)
 
 pub two-i32 : (a b : ℤ) → twoBig (ofZ w32 a) (ofZ w32 b) ≡ i32Be a ++ i32Be b
 unfolding twoBig i32Be

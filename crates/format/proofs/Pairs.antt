@@ -1,12 +1,18 @@
--- Points as a list of numbers, two for each: read from its front and written to it.
+-- Points as a list of numbers, two for each: read from its front and written to it; and their x and their y, read each by itself.
 use mathlib.Core.Path.{_≡_, refl, ap}
-use mathlib.Core.List.{List, [], _∷_, _++_}
-use Prim.Native.Nat.{ℕ, zero, suc, _+_, _*_, _≤_, _<_}
+use mathlib.Core.List.{List, [], _∷_, _++_, map, flatten}
+use Prim.Native.Nat.{ℕ, zero, suc, _+_, _*_, _^_, _≤_, _<_}
 use native.Mathlib.Omega.{arith}
+use lib.Ieee.{binary64, ofBits}
 use lib.ListN.{length, take, drop, getD}
 use lib.Seq.{getD-drop}
+use Rattle.format.specs.Bytes.{leBytes, Fit}
+use Rattle.format.specs.Numbers.{leF64, doublesAt}
 use Rattle.format.specs.Shapes.{Point}
 use Rattle.format.specs.WellFormed.{coordinates}
+use Rattle.format.proofs.ByteLaws.{length-leBytes}
+use Rattle.format.proofs.Places.{Stands, front, back}
+use Rattle.format.proofs.Runs.{run, double-back}
 
 unfoldable pub pairs : ℕ → List ℕ → List Point
 pairs zero ds = []
@@ -52,3 +58,37 @@ pair-at (suc n) ds (suc i) d h =
     let e : 2 + 2 * i ≡ 2 * suc i = omega arith in
     let f : 2 + (2 * i + 1) ≡ 2 * suc i + 1 = omega arith in
     rw (pair-at n (drop 2 ds) i d (omega arith), getD-drop 2 ds (2 * i) 0, getD-drop 2 ds (2 * i + 1) 0, e, f)
+
+-- ---- of points that stand in the bytes, one pair behind the other, all x and all y
+
+module _ (s : List ℕ) where
+  -- behind a number that stands there the others do
+  behind : (at d : ℕ) (ds : List ℕ) → Stands at (run 8 (d ∷ ds)) s → Stands (at + 8) (run 8 ds) s
+  unfolding flatten
+  behind at d ds p = back at 8 (leBytes 8 d) (run 8 ds) s (length-leBytes 8 d) p
+
+  first-of : (at d : ℕ) (ds : List ℕ) → d < 2 ^ 64 → Stands at (run 8 (d ∷ ds)) s → leF64 at s ≡ ofBits binary64 d
+  unfolding flatten
+  first-of at d ds h p = double-back d at s h (front at 8 (leBytes 8 d) (run 8 ds) s (length-leBytes 8 d) p)
+
+  next-pair : (at : ℕ) (p : Point) (ps : List Point) → Stands at (run 8 (coordinates (p ∷ ps))) s → Stands (at + 16) (run 8 (coordinates ps)) s
+  next-pair at p ps h =
+      let e : at + 8 + 8 ≡ at + 16 = omega arith in
+      rw e at (behind (at + 8) (p .y) (coordinates ps) (behind at (p .x) (p .y ∷ coordinates ps) h))
+
+  pub xs-back : (ps : List Point) (at : ℕ) → Fit 8 (coordinates ps) → Stands at (run 8 (coordinates ps)) s → doublesAt 16 (length ps) at s ≡ map (λ (p : Point). ofBits binary64 (p .x)) ps
+  unfolding doublesAt
+  xs-back [] at f h = refl
+  xs-back (p ∷ ps) at f h =
+      let x = first-of at (p .x) (p .y ∷ coordinates ps) (f .0) h in
+      let t = xs-back ps (at + 16) (f .1 .1) (next-pair at p ps h) in
+      λ i. x i ∷ t i
+
+  pub ys-back : (ps : List Point) (at : ℕ) → Fit 8 (coordinates ps) → Stands at (run 8 (coordinates ps)) s → doublesAt 16 (length ps) (at + 8) s ≡ map (λ (p : Point). ofBits binary64 (p .y)) ps
+  unfolding doublesAt
+  ys-back [] at f h = refl
+  ys-back (p ∷ ps) at f h =
+      let y = first-of (at + 8) (p .y) (coordinates ps) (f .1 .0) (behind at (p .x) (p .y ∷ coordinates ps) h) in
+      let e : at + 16 + 8 ≡ at + 8 + 16 = omega arith in
+      let t = rw e at (ys-back ps (at + 16) (f .1 .1) (next-pair at p ps h)) in
+      λ i. y i ∷ t i

@@ -88,14 +88,14 @@ pub double-back : (d at : ℕ) (s : List ℕ) → d < 2 ^ 64 → Stands at (leBy
 unfolding leF64
 double-back d at s h p = ap (ofBits binary64) (le-back 8 d at s h p)
 
-doubles-are : (n at : ℕ) (s : List ℕ) → doublesAt n at s ≡ map (ofBits binary64) (numbers 8 n at s)
+doubles-are : (n at : ℕ) (s : List ℕ) → doublesAt 8 n at s ≡ map (ofBits binary64) (numbers 8 n at s)
 unfolding doublesAt numbers leF64
 doubles-are zero at s = refl
 doubles-are (suc n) at s = ap (_∷_ (leF64 at s)) (doubles-are n (at + 8) s)
 
 -- all of those that stand there, and double i of them
 module _ (at : ℕ) (ds s : List ℕ) (f : Fit 8 ds) (p : Stands at (run 8 ds) s) where
-  pub doubles-back : (n : ℕ) → length ds ≡ n → doublesAt n at s ≡ map (ofBits binary64) ds
+  pub doubles-back : (n : ℕ) → length ds ≡ n → doublesAt 8 n at s ≡ map (ofBits binary64) ds
   doubles-back n e = rw (← e) (doubles-are (length ds) at s ∙ ap (map (ofBits binary64)) (numbers-back 8 at ds s f p))
 
   pub double-at : (i : ℕ) → i < length ds → leF64 (at + 8 * i) s ≡ ofBits binary64 (getD ds i 0)

@@ -31,10 +31,10 @@ leI32 at s = toZ w32 (le (field 4 at s))
 unfoldable pub leF64 : ℕ → List ℕ → Float
 leF64 at s = ofBits binary64 (le (field 8 at s))
 
--- n doubles from a place on
-unfoldable pub doublesAt : ℕ → ℕ → List ℕ → List Float
-doublesAt zero at s = []
-doublesAt (suc n) at s = leF64 at s ∷ doublesAt n (at + 8) s
+-- n doubles, the first of them at a place and each so many bytes behind the one before it
+unfoldable pub doublesAt : ℕ → ℕ → ℕ → List ℕ → List Float
+doublesAt step zero at s = []
+doublesAt step (suc n) at s = leF64 at s ∷ doublesAt step n (at + step) s
 
 -- ---- and the bytes of a number; a NaN, of which the logic has one, has the bits 7FF8000000000000
 

@@ -59,8 +59,8 @@ made s w v k b e f g h = λ i. gives (record { «file_length» = record { 0 = e 
 
 -- a box whose doubles are the eight that stand there
 pub boxed : (at : ℕ) (s : List ℕ) (l : List Float) (d : Float)
-    → l ≡ doublesAt 8 at s
+    → l ≡ doublesAt 8 8 at s
     → record { xmin = getD l 0 d; ymin = getD l 1 d; xmax = getD l 2 d; ymax = getD l 3 d; zmin = getD l 4 d; zmax = getD l 5 d; mmin = getD l 6 d; mmax = getD l 7 d } ≡ boxAt at s
 boxed at s l d e =
-    let x : (i : ℕ) → i < 8 → getD (doublesAt 8 at s) i d ≡ leF64 (at + 8 * i) s = λ i. doubles-at 8 at s i d in
+    let x : (i : ℕ) → i < 8 → getD (doublesAt 8 8 at s) i d ≡ leF64 (at + 8 * i) s = λ i. doubles-at 8 8 at s i d in
     rw (e, x 0 (lit< tt), x 1 (lit< tt), x 2 (lit< tt), x 3 (lit< tt), x 4 (lit< tt), x 5 (lit< tt), x 6 (lit< tt), x 7 (lit< tt), add-zero)

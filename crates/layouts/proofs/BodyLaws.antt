@@ -2,13 +2,13 @@
 use mathlib.Core.Path.{_≡_, refl, sym, ap, _∙_}
 use mathlib.Core.Bool.{Bool, true, false, cond}
 use mathlib.Core.List.{List, [], _∷_, _++_, append-assoc}
-use Prim.Native.Nat.{ℕ, _+_, _*_, _%_, _≤_}
+use Prim.Native.Nat.{ℕ, _+_, _*_, _≤_}
 use native.Mathlib.Omega.{arith}
 use lib.Ieee.{Float}
 use lib.ListN.{length, length-append}
 use lib.Seq.{sets}
 use Rattle.format.specs.Bytes.{leBytes}
-use Rattle.format.specs.Encoding.{measureBytes, pointsBytes, shapeBytes}
+use Rattle.format.specs.Encoding.{measureBytes, shapeBytes}
 use Rattle.format.specs.Lengths.{severalForm, frontWords}
 use Rattle.format.specs.Numbers.{little, f64sLe}
 use Rattle.format.specs.Shapes.{sum}
@@ -18,9 +18,9 @@ use Rattle.format.proofs.LayoutLaws.{onto}
 use Rattle.format.proofs.NumberLaws.{length-little, length-f64sLe, f64sLe-append, doubles-bits}
 use Rattle.header.specs.declared.bbox.BBoxZ.{BBoxZ}
 use Rattle.layouts.specs.Answers.{bodySize}
-use Rattle.layouts.specs.Steps.{measureSize, startsBytes, corners, countsBytes, frontBytes, frontSize, Agreed}
+use Rattle.layouts.specs.Steps.{measureSize, startsBytes, corners, countsBytes, frontBytes, frontSize, pairsBytes, Agreed}
 use Rattle.layouts.specs.Tables.{pointsOf, measureOf, partsOf, multipointOf, severalOf, pointsLent}
-use Rattle.layouts.proofs.TableLaws.{length-points, points-bytes, split-length, split-whole, split-starts, length-starts}
+use Rattle.layouts.proofs.TableLaws.{length-points, length-pairs, split-length, split-whole, split-starts, length-starts}
 
 -- ---- box, counts and starts
 
@@ -104,60 +104,56 @@ measure-fits false values n at room e h = h
 
 -- ---- the whole body
 
-module _ (z m : Bool) (b : BBoxZ) (counts : List ℕ) (xy zs ms : List Float) where
+module _ (z m : Bool) (b : BBoxZ) (counts : List ℕ) (xs ys zs ms : List Float) where
   abbrev zRun : List ℕ
   zRun = run z (b .zmin) (b .zmax) zs
 
   abbrev mRun : List ℕ
   mRun = run m (b .mmin) (b .mmax) ms
 
-  -- the points, z and m, in parts or not
-  points-run : length xy % 2 ≡ 0 → pointsBytes (pointsOf xy) (measureOf z (b .zmin) (b .zmax) zs) (measureOf m (b .mmin) (b .mmax) ms) ≡ f64sLe xy ++ (zRun ++ mRun)
-  points-run e = rw (pointsBytes-is, points-bytes xy e)
-
-  body-is : (parts : Bool) → length xy ≡ 2 * pointsLent parts counts xy
-      → shapeBytes (severalOf parts z m b counts xy zs ms) ≡ frontBytes parts b counts (pointsLent parts counts xy) ++ (f64sLe xy ++ (zRun ++ mRun))
+  body-is : (parts : Bool) → Agreed z m (pointsLent parts counts xs) xs ys zs ms
+      → shapeBytes (severalOf parts z m b counts xs ys zs ms) ≡ frontBytes parts b counts (pointsLent parts counts xs) ++ (pairsBytes xs ys ++ (zRun ++ mRun))
   unfolding partsOf multipointOf frontBytes countsBytes
-  body-is true e =
-      let n : sum counts ≡ length (pointsOf xy) = omega (arith, length-points xy) in
+  body-is true h =
+      let n = sym (length-points xs ys (sum counts) (h .xs-has) (h .ys-has)) in
       rw (
         shape-parted,
         partsBytes-is,
         boxBytes-is,
         doubles-bits (corners b),
-        split-length counts (pointsOf xy),
-        split-whole counts (pointsOf xy) n,
-        split-starts counts (pointsOf xy) 0 n,
+        split-length counts (pointsOf xs ys),
+        split-whole counts (pointsOf xs ys) n,
+        split-starts counts (pointsOf xs ys) 0 n,
         ← n,
-        points-run (omega arith),
+        pointsBytes-is,
       )
       (simp append-assoc)
-  body-is false e =
-      rw (shape-multipoint, multipointBytes-is, boxBytes-is, doubles-bits (corners b), length-points xy, points-run (omega arith)) (simp append-assoc)
+  body-is false h =
+      rw (shape-multipoint, multipointBytes-is, boxBytes-is, doubles-bits (corners b), length-points xs ys _ (h .xs-has) (h .ys-has), pointsBytes-is) (simp append-assoc)
 
-  module _ (parts : Bool) (h : Agreed z m (pointsLent parts counts xy) xy zs ms) where
+  module _ (parts : Bool) (h : Agreed z m (pointsLent parts counts xs) xs ys zs ms) where
     abbrev n : ℕ
-    n = pointsLent parts counts xy
+    n = pointsLent parts counts xs
 
     abbrev start : ℕ
     start = frontSize parts (length counts)
 
-    xy-length : length (f64sLe xy) ≡ 16 * n
-    xy-length = length-f64sLe xy ∙ omega (arith, h .xy-has)
+    pairs-length : length (pairsBytes xs ys) ≡ 16 * n
+    pairs-length = length-pairs xs ys (h .ys-has ∙ sym (h .xs-has)) ∙ ap (_*_ 16) (h .xs-has)
 
     z-length : length zRun ≡ measureSize z n
     z-length = length-measure (b .zmin) (b .zmax) zs z n (h .zs-has)
 
-    stored : (out l1 l2 l3 l4 : List ℕ) → l1 ≡ sets out 0 (frontBytes parts b counts n) → l2 ≡ sets l1 start (f64sLe xy) → l3 ≡ sets l2 (start + 16 * n) zRun → l4 ≡ sets l3 (start + 16 * n + measureSize z n) mRun → l4 ≡ sets out 0 (shapeBytes (severalOf parts z m b counts xy zs ms))
+    stored : (out l1 l2 l3 l4 : List ℕ) → l1 ≡ sets out 0 (frontBytes parts b counts n) → l2 ≡ sets l1 start (pairsBytes xs ys) → l3 ≡ sets l2 (start + 16 * n) zRun → l4 ≡ sets l3 (start + 16 * n + measureSize z n) mRun → l4 ≡ sets out 0 (shapeBytes (severalOf parts z m b counts xs ys zs ms))
     stored out l1 l2 l3 l4 e1 e2 e3 e4 =
         let f = frontBytes parts b counts n in
         let f-length = length-front counts n parts b in
-        let s2 = onto out l1 l2 f (f64sLe xy) 0 _ (omega (arith, f-length)) e1 e2 in
-        let s3 = onto out l2 l3 (f ++ f64sLe xy) zRun 0 _ (simp (length-append, f-length, xy-length) (omega arith)) s2 e3 in
-        let s4 = onto out l3 l4 (f ++ f64sLe xy ++ zRun) mRun 0 _ (simp (length-append, f-length, xy-length, z-length) (omega arith)) s3 e4 in
-        let e : f ++ f64sLe xy ++ zRun ++ mRun ≡ f ++ (f64sLe xy ++ (zRun ++ mRun)) = simp append-assoc in
-        s4 ∙ ap (sets out 0) (e ∙ sym (body-is parts (h .xy-has)))
+        let s2 = onto out l1 l2 f (pairsBytes xs ys) 0 _ (omega (arith, f-length)) e1 e2 in
+        let s3 = onto out l2 l3 (f ++ pairsBytes xs ys) zRun 0 _ (simp (length-append, f-length, pairs-length) (omega arith)) s2 e3 in
+        let s4 = onto out l3 l4 (f ++ pairsBytes xs ys ++ zRun) mRun 0 _ (simp (length-append, f-length, pairs-length, z-length) (omega arith)) s3 e4 in
+        let e : f ++ pairsBytes xs ys ++ zRun ++ mRun ≡ f ++ (pairsBytes xs ys ++ (zRun ++ mRun)) = simp append-assoc in
+        s4 ∙ ap (sets out 0) (e ∙ sym (body-is parts h))
 
     -- by where the points start, how many they are and the bytes of z, as the code has them
-    pub body-stored : (at i w : ℕ) → at ≡ start → i ≡ n → w ≡ measureSize z i → (out l1 l2 l3 l4 : List ℕ) → l1 ≡ sets out 0 (frontBytes parts b counts i) → l2 ≡ sets l1 at (f64sLe xy) → l3 ≡ sets l2 (at + 16 * i) zRun → l4 ≡ sets l3 (at + 16 * i + w) mRun → l4 ≡ sets out 0 (shapeBytes (severalOf parts z m b counts xy zs ms))
+    pub body-stored : (at i w : ℕ) → at ≡ start → i ≡ n → w ≡ measureSize z i → (out l1 l2 l3 l4 : List ℕ) → l1 ≡ sets out 0 (frontBytes parts b counts i) → l2 ≡ sets l1 at (pairsBytes xs ys) → l3 ≡ sets l2 (at + 16 * i) zRun → l4 ≡ sets l3 (at + 16 * i + w) mRun → l4 ≡ sets out 0 (shapeBytes (severalOf parts z m b counts xs ys zs ms))
     body-stored at i w p q r = rw (p, r, q) stored

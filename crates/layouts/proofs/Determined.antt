@@ -30,8 +30,8 @@ back-layout (Room n) = refl
 pub one-layout : (a b : LayoutAnswer) → saidLayout a ≡ saidLayout b → a ≡ b
 one-layout = told-one saidLayout readLayout back-layout
 
-module _ (parts z m : Bool) (bbox : BBoxZ) (counts : List ℕ) (xy zs ms : List Float) (out : List ℕ) where
-  pub one-result : (a b : LayoutAnswer) (s t : List ℕ) → WritesBody parts z m bbox counts xy zs ms out a s → WritesBody parts z m bbox counts xy zs ms out b t → (a ≡ b) × (s ≡ t)
+module _ (parts z m : Bool) (bbox : BBoxZ) (counts : List ℕ) (xs ys zs ms : List Float) (out : List ℕ) where
+  pub one-result : (a b : LayoutAnswer) (s t : List ℕ) → WritesBody parts z m bbox counts xs ys zs ms out a s → WritesBody parts z m bbox counts xs ys zs ms out b t → (a ≡ b) × (s ≡ t)
   one-result a b s t p q =
       let e = p .says ∙ sym (q .says) in
-      (one-layout a b e, p .out-is ∙ (ap (λ (said : Said ℕ). unlessRefused said out (sets out 0 (shapeBytes (severalOf parts z m bbox counts xy zs ms)))) e ∙ sym (q .out-is)))
+      (one-layout a b e, p .out-is ∙ (ap (λ (said : Said ℕ). unlessRefused said out (sets out 0 (shapeBytes (severalOf parts z m bbox counts xs ys zs ms)))) e ∙ sym (q .out-is)))

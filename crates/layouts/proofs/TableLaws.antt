@@ -3,7 +3,7 @@ use mathlib.Core.Path.{_≡_, refl, sym, ap, _∙_}
 use mathlib.Core.Bool.{Bool, true, false, cond, _&&_, _||_}
 use mathlib.Core.List.{List, [], _∷_, _++_, map, flatten}
 use mathlib.Core.Option.{some}
-use Prim.Native.Nat.{ℕ, suc, _+_, _*_, _/_, _%_, _^_, _≤_, _<_}
+use Prim.Native.Nat.{ℕ, suc, _+_, _*_, _^_, _≤_, _<_}
 use native.Mathlib.Omega.{arith}
 use lib.Dec.{eqb}
 use lib.Ieee.{Float}
@@ -11,45 +11,59 @@ use lib.ListN.{length, take, drop, length-append, length-drop, length-map, take-
 use lib.Seq.{length-take-le}
 use borrow.Author.Tests.{eqb-true}
 use Rattle.format.specs.declared.kinds.Kind.{Kind}
-use Rattle.format.specs.Encoding.{doubles, pointBytes, startsFrom, shapeWords}
+use Rattle.format.specs.Encoding.{pointBytes, startsFrom, shapeWords}
 use Rattle.format.specs.Lengths.{formOf, severalForm, contentWords}
-use Rattle.format.specs.Numbers.{little, f64sLe}
+use Rattle.format.specs.Numbers.{little, f64Le}
 use Rattle.format.specs.Shapes.{Point, there, Covers, OnlyIf, MeasuresOf, OfKind, partsIn, pointsIn, sum}
-use Rattle.format.specs.WellFormed.{coordinates}
-use Rattle.format.proofs.Equations.{startsFrom-nil, startsFrom-cons, parts-parted, points-parted, words-parted, parts-multipoint, points-multipoint, words-multipoint}
-use Rattle.format.proofs.Laid.{points-doubles}
-use Rattle.format.proofs.NumberLaws.{length-little, doubles-bits}
+use Rattle.format.proofs.Equations.{f64Le-is, pointBytes-is, startsFrom-nil, startsFrom-cons, parts-parted, points-parted, words-parted, parts-multipoint, points-multipoint, words-multipoint}
+use Rattle.format.proofs.NumberLaws.{length-little, length-f64Le}
 use Rattle.format.proofs.OrderLaws.{both-true}
 use Rattle.header.specs.declared.bbox.BBoxZ.{BBoxZ}
-use Rattle.layouts.specs.Steps.{startsBytes, Agreed}
+use Rattle.layouts.specs.Steps.{startsBytes, pairsBytes, Agreed}
 use Rattle.layouts.specs.Tables.{bits, pointsOf, splitBy, measureOf, boxOf, partsOf, multipointOf, severalOf, pointsLent}
 
 -- ---- tables that agree
 
 -- with p for what else is asked
-pub agreed : (p z m : Bool) (n : ℕ) (xy zs ms : List Float)
-    → p && eqb (length xy) (2 * n) && eqb (length zs) (cond z n 0) && eqb (length ms) (cond m n 0) ≡ true
-    → (p ≡ true) × Agreed z m n xy zs ms
-agreed p z m n xy zs ms e =
+pub agreed : (p z m : Bool) (n : ℕ) (xs ys zs ms : List Float)
+    → p && eqb (length xs) n && eqb (length ys) n && eqb (length zs) (cond z n 0) && eqb (length ms) (cond m n 0) ≡ true
+    → (p ≡ true) × Agreed z m n xs ys zs ms
+agreed p z m n xs ys zs ms e =
     let a = both-true _ (eqb (length ms) (cond m n 0)) e in
     let b = both-true _ (eqb (length zs) (cond z n 0)) (a .0) in
-    let c = both-true p (eqb (length xy) (2 * n)) (b .0) in
-    (c .0, record { xy-has = eqb-true _ _ (c .1); zs-has = eqb-true _ _ (b .1); ms-has = eqb-true _ _ (a .1) })
+    let c = both-true _ (eqb (length ys) n) (b .0) in
+    let d = both-true p (eqb (length xs) n) (c .0) in
+    (d .0, record { xs-has = eqb-true _ _ (d .1); ys-has = eqb-true _ _ (c .1); zs-has = eqb-true _ _ (b .1); ms-has = eqb-true _ _ (a .1) })
 
 -- ---- points
 
-pub length-points : (xy : List Float) → length (pointsOf xy) ≡ length xy / 2
-length-points [] = refl
-length-points (x ∷ []) = refl
-length-points (x ∷ y ∷ xy) = omega (arith, length-points xy)
+pub length-points : (xs ys : List Float) (n : ℕ) → length xs ≡ n → length ys ≡ n → length (pointsOf xs ys) ≡ n
+length-points [] ys n e f = e
+length-points (x ∷ xs) [] n e f = absurd (omega arith)
+length-points (x ∷ xs) (y ∷ ys) n e f = ap suc (length-points xs ys (length xs) refl (omega arith)) ∙ e
 
-pub points-are : (xy : List Float) → length xy % 2 ≡ 0 → coordinates (pointsOf xy) ≡ map bits xy
-points-are [] e = refl
-points-are (x ∷ []) e = absurd (omega arith)
-points-are (x ∷ y ∷ xy) e = ap (λ (l : List ℕ). bits x ∷ bits y ∷ l) (points-are xy (omega arith))
+-- their x are the lent x, and their y the lent y
+pub xs-are : (xs ys : List Float) → length ys ≡ length xs → map (λ (p : Point). p .x) (pointsOf xs ys) ≡ map bits xs
+xs-are [] ys e = refl
+xs-are (x ∷ xs) [] e = absurd (omega arith)
+xs-are (x ∷ xs) (y ∷ ys) e = ap (_∷_ (bits x)) (xs-are xs ys (omega arith))
 
-pub points-bytes : (xy : List Float) → length xy % 2 ≡ 0 → flatten (map pointBytes (pointsOf xy)) ≡ f64sLe xy
-points-bytes xy e = points-doubles (pointsOf xy) ∙ (ap doubles (points-are xy e) ∙ doubles-bits xy)
+pub ys-are : (xs ys : List Float) → length ys ≡ length xs → map (λ (p : Point). p .y) (pointsOf xs ys) ≡ map bits ys
+ys-are [] [] e = refl
+ys-are [] (y ∷ ys) e = absurd (omega arith)
+ys-are (x ∷ xs) [] e = absurd (omega arith)
+ys-are (x ∷ xs) (y ∷ ys) e = ap (_∷_ (bits y)) (ys-are xs ys (omega arith))
+
+-- the bytes of one, and how many bytes they have
+pub pair-is : (x y : Float) → pointBytes (record { x = bits x; y = bits y }) ≡ f64Le x ++ f64Le y
+pair-is x y = rw (pointBytes-is, f64Le-is x, f64Le-is y)
+
+pub length-pairs : (xs ys : List Float) → length ys ≡ length xs → length (pairsBytes xs ys) ≡ 16 * length xs
+unfolding flatten
+length-pairs [] ys e = refl
+length-pairs (x ∷ xs) [] e = absurd (omega arith)
+length-pairs (x ∷ xs) (y ∷ ys) e =
+    rw pair-is (simp (length-append, length-f64Le) (omega (arith, length-pairs xs ys (omega arith))))
 
 -- ---- parts
 
@@ -84,36 +98,36 @@ split-counts (n ∷ ns) ps e =
 
 -- ---- the whole shape
 
-pub parts-are : (z m : Bool) (b : BBoxZ) (counts : List ℕ) (xy zs ms : List Float)
-    → partsOf z m b counts xy zs ms
+pub parts-are : (z m : Bool) (b : BBoxZ) (counts : List ℕ) (xs ys zs ms : List Float)
+    → partsOf z m b counts xs ys zs ms
     ≡ record {
       box = boxOf b;
-      parts = splitBy counts (pointsOf xy);
+      parts = splitBy counts (pointsOf xs ys);
       z = measureOf z (b .zmin) (b .zmax) zs;
       m = measureOf m (b .mmin) (b .mmax) ms;
     }
 unfolding partsOf
-parts-are z m b counts xy zs ms = refl
+parts-are z m b counts xs ys zs ms = refl
 
-pub multipoint-are : (z m : Bool) (b : BBoxZ) (xy zs ms : List Float)
-    → multipointOf z m b xy zs ms
+pub multipoint-are : (z m : Bool) (b : BBoxZ) (xs ys zs ms : List Float)
+    → multipointOf z m b xs ys zs ms
     ≡ record {
       box = boxOf b;
-      points = pointsOf xy;
+      points = pointsOf xs ys;
       z = measureOf z (b .zmin) (b .zmax) zs;
       m = measureOf m (b .mmin) (b .mmax) ms;
     }
 unfolding multipointOf
-multipoint-are z m b xy zs ms = refl
+multipoint-are z m b xs ys zs ms = refl
 
 pub there-measure : (flag : Bool) (low high : Float) (vs : List Float) → there (measureOf flag low high vs) ≡ flag
 there-measure true low high vs = refl
 there-measure false low high vs = refl
 
-all-points : (counts : List ℕ) (xy : List Float) → length xy ≡ 2 * sum counts → length (flatten (splitBy counts (pointsOf xy))) ≡ sum counts
-all-points counts xy e =
-    let n : sum counts ≡ length (pointsOf xy) = omega (arith, length-points xy) in
-    rw (split-whole counts (pointsOf xy) n, n)
+all-points : (counts : List ℕ) (xs ys : List Float) → length xs ≡ sum counts → length ys ≡ sum counts → length (flatten (splitBy counts (pointsOf xs ys))) ≡ sum counts
+all-points counts xs ys e f =
+    let n = sym (length-points xs ys (sum counts) e f) in
+    rw (split-whole counts (pointsOf xs ys) n, n)
 
 -- a multipoint has no part counts
 pub no-counts : (parts : Bool) (p : ℕ) → (parts || eqb p 0) ≡ true → parts ≡ false → p ≡ 0
@@ -121,29 +135,29 @@ no-counts true p h e = absurd (let z : _≡_ {A = ℕ} 0 1 = cc in omega arith)
 no-counts false p h e = eqb-true p 0 h
 
 -- and with parts the counts sum to the points
-pub sum-held : (parts : Bool) (counts : List ℕ) (xy : List Float) → pointsLent parts counts xy < 2 ^ 31 → parts ≡ true → sum counts < 2 ^ 31
-sum-held true counts xy h e = h
-sum-held false counts xy h e = absurd (let z : _≡_ {A = ℕ} 0 1 = cc in omega arith)
+pub sum-held : (parts : Bool) (counts : List ℕ) (xs : List Float) → pointsLent parts counts xs < 2 ^ 31 → parts ≡ true → sum counts < 2 ^ 31
+sum-held true counts xs h e = h
+sum-held false counts xs h e = absurd (let z : _≡_ {A = ℕ} 0 1 = cc in omega arith)
 
 -- its counts and its words
-module _ (z m : Bool) (b : BBoxZ) (counts : List ℕ) (xy zs ms : List Float) where
-  pub parts-in : (parts : Bool) → (parts || eqb (length counts) 0) ≡ true → partsIn (severalOf parts z m b counts xy zs ms) ≡ length counts
+module _ (z m : Bool) (b : BBoxZ) (counts : List ℕ) (xs ys zs ms : List Float) where
+  pub parts-in : (parts : Bool) → (parts || eqb (length counts) 0) ≡ true → partsIn (severalOf parts z m b counts xs ys zs ms) ≡ length counts
   unfolding partsOf
-  parts-in true h = rw (parts-parted, split-length counts (pointsOf xy))
-  parts-in false h = parts-multipoint (multipointOf z m b xy zs ms) ∙ sym (no-counts false (length counts) h refl)
+  parts-in true h = rw (parts-parted, split-length counts (pointsOf xs ys))
+  parts-in false h = parts-multipoint (multipointOf z m b xs ys zs ms) ∙ sym (no-counts false (length counts) h refl)
 
-  pub points-in : (parts : Bool) → length xy ≡ 2 * pointsLent parts counts xy → pointsIn (severalOf parts z m b counts xy zs ms) ≡ pointsLent parts counts xy
+  pub points-in : (parts : Bool) → Agreed z m (pointsLent parts counts xs) xs ys zs ms → pointsIn (severalOf parts z m b counts xs ys zs ms) ≡ pointsLent parts counts xs
   unfolding partsOf multipointOf
-  points-in true e = rw (points-parted, all-points counts xy e)
-  points-in false e = rw (points-multipoint, length-points xy)
+  points-in true a = rw (points-parted, all-points counts xs ys (a .xs-has) (a .ys-has))
+  points-in false a = rw (points-multipoint, length-points xs ys _ (a .xs-has) (a .ys-has))
 
-  pub words-in : (parts : Bool) → (parts || eqb (length counts) 0) ≡ true → length xy ≡ 2 * pointsLent parts counts xy
-      → shapeWords (severalOf parts z m b counts xy zs ms) ≡ contentWords (severalForm parts) z m (length counts) (pointsLent parts counts xy)
+  pub words-in : (parts : Bool) → (parts || eqb (length counts) 0) ≡ true → Agreed z m (pointsLent parts counts xs) xs ys zs ms
+      → shapeWords (severalOf parts z m b counts xs ys zs ms) ≡ contentWords (severalForm parts) z m (length counts) (pointsLent parts counts xs)
   unfolding partsOf multipointOf
-  words-in true h e =
-      rw (words-parted, there-measure z (b .zmin) (b .zmax) zs, there-measure m (b .mmin) (b .mmax) ms, split-length counts (pointsOf xy), all-points counts xy e)
-  words-in false h e =
-      rw (words-multipoint, there-measure z (b .zmin) (b .zmax) zs, there-measure m (b .mmin) (b .mmax) ms, length-points xy, no-counts false (length counts) h refl)
+  words-in true h a =
+      rw (words-parted, there-measure z (b .zmin) (b .zmax) zs, there-measure m (b .mmin) (b .mmax) ms, split-length counts (pointsOf xs ys), all-points counts xs ys (a .xs-has) (a .ys-has))
+  words-in false h a =
+      rw (words-multipoint, there-measure z (b .zmin) (b .zmax) zs, there-measure m (b .mmin) (b .mmax) ms, length-points xs ys _ (a .xs-has) (a .ys-has), no-counts false (length counts) h refl)
 
 -- it is of the kind whose flags the layout has
 
@@ -156,9 +170,9 @@ module _ (low high : Float) (vs : List Float) where
   covers n true e = length-map vs bits ∙ e
   covers n false e = tt
 
-module _ (k : Kind) (b : BBoxZ) (counts : List ℕ) (xy zs ms : List Float) where
+module _ (k : Kind) (b : BBoxZ) (counts : List ℕ) (xs ys zs ms : List Float) where
   -- of n points, as the shape counts them
-  measures-of : (n l : ℕ) → l ≡ n → Agreed (k .z) (k .m) n xy zs ms → MeasuresOf k l (measureOf (k .z) (b .zmin) (b .zmax) zs) (measureOf (k .m) (b .mmin) (b .mmax) ms)
+  measures-of : (n l : ℕ) → l ≡ n → Agreed (k .z) (k .m) n xs ys zs ms → MeasuresOf k l (measureOf (k .z) (b .zmin) (b .zmax) zs) (measureOf (k .m) (b .mmin) (b .mmax) ms)
   measures-of n l e a =
       rw e
       (record {
@@ -168,11 +182,11 @@ module _ (k : Kind) (b : BBoxZ) (counts : List ℕ) (xy zs ms : List Float) wher
         covers-m = covers (b .mmin) (b .mmax) ms n (k .m) (a .ms-has);
       })
 
-  pub several-of-kind : (parts : Bool) → formOf k ≡ some (severalForm parts) → Agreed (k .z) (k .m) (pointsLent parts counts xy) xy zs ms
-      → OfKind k (severalOf parts (k .z) (k .m) b counts xy zs ms)
+  pub several-of-kind : (parts : Bool) → formOf k ≡ some (severalForm parts) → Agreed (k .z) (k .m) (pointsLent parts counts xs) xs ys zs ms
+      → OfKind k (severalOf parts (k .z) (k .m) b counts xs ys zs ms)
   unfolding partsOf multipointOf
-  several-of-kind true f a = record { form = f; measures = measures-of (sum counts) _ (all-points counts xy (a .xy-has)) a }
-  several-of-kind false f a = record { form = f; measures = measures-of (length xy / 2) _ (length-points xy) a }
+  several-of-kind true f a = record { form = f; measures = measures-of (sum counts) _ (all-points counts xs ys (a .xs-has) (a .ys-has)) a }
+  several-of-kind false f a = record { form = f; measures = measures-of (length xs) _ (length-points xs ys _ (a .xs-has) (a .ys-has)) a }
 
 pub length-starts : (counts : List ℕ) (a : ℕ) → length (startsBytes a counts) ≡ 4 * length counts
 unfolding startsBytes

@@ -1,21 +1,23 @@
 -- One turn of each loop of the crate, in the loop's own terms: what is left to do before the turn is the turn and what is left after it.
 use mathlib.Core.Path.{_≡_, refl, sym}
 use mathlib.Core.Bool.{Bool, true, false}
-use mathlib.Core.List.{List}
-use Prim.Native.Nat.{ℕ, _+_, _*_, _-_, _≤_, _<_}
+use mathlib.Core.List.{List, _++_, flatten}
+use Prim.Native.Nat.{ℕ, suc, _+_, _*_, _-_, _≤_, _<_}
 use native.Mathlib.Numerals.{add-one}
 use native.Mathlib.Omega.{arith}
 use lib.Dec.{eqb}
-use lib.ListN.{length, getD, drop}
+use lib.Ieee.{Float}
+use lib.ListN.{length, getD, drop, length-append}
 use lib.Seq.{sets, drop-cons}
 use borrow.Author.Tests.{eq-eqb, ne-eqb, eqb-true, eqb-false}
 use Rattle.format.specs.Bytes.{leBytes}
-use Rattle.format.specs.Numbers.{little}
+use Rattle.format.specs.Numbers.{little, f64Le}
 use Rattle.format.specs.Shapes.{sum}
 use Rattle.format.proofs.Equations.{little-is}
-use Rattle.format.proofs.LayoutLaws.{sets-append, sum-drop}
-use Rattle.format.proofs.NumberLaws.{length-little}
-use Rattle.layouts.specs.Steps.{startsBytes}
+use Rattle.format.proofs.LayoutLaws.{sets-append, onto, sum-drop}
+use Rattle.format.proofs.NumberLaws.{length-little, length-f64Le}
+use Rattle.layouts.specs.Steps.{startsBytes, pairsBytes}
+use Rattle.layouts.proofs.TableLaws.{pair-is}
 
 -- ---- a sum that runs down
 
@@ -44,3 +46,15 @@ unfolding startsBytes
 starts-turn out at i a counts h =
     let e : at + 4 * (i + 1) ≡ at + 4 * i + length (little a) = omega (arith, length-little a) in
     rw (drop-cons counts i 0 h, e, add-one, ← little-is a) (sym (sets-append (little a) _ out (at + 4 * i)))
+
+-- ---- pairs that run on
+
+-- what is left, from point i on, at the place of point i, once x and y of that point are stored
+pub pairs-turn : (out l1 l2 : List ℕ) (at i : ℕ) (xs ys : List Float) (d e : Float) → i < length xs → i < length ys → l1 ≡ sets out (at + 16 * i) (f64Le (getD xs i d)) → l2 ≡ sets l1 (at + 16 * i + 8) (f64Le (getD ys i e)) → sets l2 (at + 16 * (i + 1)) (pairsBytes (drop (i + 1) xs) (drop (i + 1) ys)) ≡ sets out (at + 16 * i) (pairsBytes (drop i xs) (drop i ys))
+unfolding flatten
+pairs-turn out l1 l2 at i xs ys d e h k p q =
+    let x = f64Le (getD xs i d) in
+    let y = f64Le (getD ys i e) in
+    let pair = onto out l1 l2 x y (at + 16 * i) (at + 16 * i + 8) (simp length-f64Le) p q in
+    let j : at + 16 * suc i ≡ at + 16 * i + length (x ++ y) = simp (length-append, length-f64Le) (omega arith) in
+    rw (drop-cons xs i d h, drop-cons ys i e k, pair-is, add-one) (onto out l2 _ (x ++ y) _ (at + 16 * i) (at + 16 * suc i) j pair refl)

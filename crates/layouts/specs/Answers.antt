@@ -16,33 +16,33 @@ use Rattle.layouts.specs.declared.LayoutAnswer.{LayoutAnswer}
 use Rattle.layouts.specs.declared.LayoutAnswer.the-variants.{Written, Tables, Long, Room}
 use Rattle.layouts.specs.Tables.{severalOf, pointsLent}
 
--- the part counts sum to n, and a multipoint has none; xy holds 2n, and z and m hold n where the layout has them, else 0
-abbrev pub agree : Bool → Bool → Bool → List ℕ → List Float → List Float → List Float → Bool
-agree parts z m counts xy zs ms =
-    let n = pointsLent parts counts xy in
-    (parts || eqb (length counts) 0) && eqb (length xy) (2 * n) && eqb (length zs) (cond z n 0) && eqb (length ms) (cond m n 0)
+-- the part counts sum to n, and a multipoint has none; x and y hold n each, and z and m hold n where the layout has them, else 0
+abbrev pub agree : Bool → Bool → Bool → List ℕ → List Float → List Float → List Float → List Float → Bool
+agree parts z m counts xs ys zs ms =
+    let n = pointsLent parts counts xs in
+    (parts || eqb (length counts) 0) && eqb (length xs) n && eqb (length ys) n && eqb (length zs) (cond z n 0) && eqb (length ms) (cond m n 0)
 
 -- an i32 holds both counts
 abbrev pub countsHeld : Bool → List ℕ → List Float → Bool
-countsHeld parts counts xy = ltb (length counts) (2 ^ 31) && ltb (pointsLent parts counts xy) (2 ^ 31)
+countsHeld parts counts xs = ltb (length counts) (2 ^ 31) && ltb (pointsLent parts counts xs) (2 ^ 31)
 
 -- the bytes of the body: the content without the kind's field
 unfoldable pub bodySize : Bool → Bool → Bool → ℕ → ℕ → ℕ
 bodySize parts z m p n = 2 * contentWords (severalForm parts) z m p n - 4
 
 abbrev pub lentSize : Bool → Bool → Bool → List ℕ → List Float → ℕ
-lentSize parts z m counts xy = bodySize parts z m (length counts) (pointsLent parts counts xy)
+lentSize parts z m counts xs = bodySize parts z m (length counts) (pointsLent parts counts xs)
 
-abbrev pub layoutTests : Bool → Bool → Bool → List ℕ → List Float → List Float → List Float → ℕ → List (Bool × Said ℕ)
-layoutTests parts z m counts xy zs ms room =
-    (agree parts z m counts xy zs ms, tables)
-    ∷ (countsHeld parts counts xy, long)
-    ∷ (leb (lentSize parts z m counts xy) room, roomBytes (lentSize parts z m counts xy))
+abbrev pub layoutTests : Bool → Bool → Bool → List ℕ → List Float → List Float → List Float → List Float → ℕ → List (Bool × Said ℕ)
+layoutTests parts z m counts xs ys zs ms room =
+    (agree parts z m counts xs ys zs ms, tables)
+    ∷ (countsHeld parts counts xs, long)
+    ∷ (leb (lentSize parts z m counts xs) room, roomBytes (lentSize parts z m counts xs))
     ∷ []
 
 -- the number of bytes written
-unfoldable pub layoutOf : Bool → Bool → Bool → List ℕ → List Float → List Float → List Float → ℕ → Said ℕ
-layoutOf parts z m counts xy zs ms room = first (layoutTests parts z m counts xy zs ms room) (gives (lentSize parts z m counts xy))
+unfoldable pub layoutOf : Bool → Bool → Bool → List ℕ → List Float → List Float → List Float → List Float → ℕ → Said ℕ
+layoutOf parts z m counts xs ys zs ms room = first (layoutTests parts z m counts xs ys zs ms room) (gives (lentSize parts z m counts xs))
 
 abbrev pub saidLayout : LayoutAnswer → Said ℕ
 saidLayout (Written n) = gives n
@@ -51,6 +51,6 @@ saidLayout Long = long
 saidLayout (Room n) = roomBytes n
 
 -- the answer, and the output: the paper's bytes of the shape, and all else as it was
-pub record WritesBody (parts z m : Bool) (b : BBoxZ) (counts : List ℕ) (xy zs ms : List Float) (out : List ℕ) (answer : LayoutAnswer) (out′ : List ℕ) : Type 0 where
-  pub says : saidLayout answer ≡ layoutOf parts z m counts xy zs ms (length out)
-  pub out-is : out′ ≡ unlessRefused (saidLayout answer) out (sets out 0 (shapeBytes (severalOf parts z m b counts xy zs ms)))
+pub record WritesBody (parts z m : Bool) (b : BBoxZ) (counts : List ℕ) (xs ys zs ms : List Float) (out : List ℕ) (answer : LayoutAnswer) (out′ : List ℕ) : Type 0 where
+  pub says : saidLayout answer ≡ layoutOf parts z m counts xs ys zs ms (length out)
+  pub out-is : out′ ≡ unlessRefused (saidLayout answer) out (sets out 0 (shapeBytes (severalOf parts z m b counts xs ys zs ms)))

@@ -1,9 +1,9 @@
--- The shape of several points that lent tables describe: part counts, and x y x y .., z and m as flat lists of doubles; the box and the ranges as
+-- The shape of several points that lent tables describe: part counts, and all x, all y, z and m as lists of doubles; the box and the ranges as
 -- given.
 use mathlib.Core.Bool.{Bool, true, false, cond}
 use mathlib.Core.List.{List, [], _∷_, map}
 use mathlib.Core.Option.{Option, none, some}
-use Prim.Native.Nat.{ℕ, _/_}
+use Prim.Native.Nat.{ℕ}
 use lib.Ieee.{Float, binary64, toBits}
 use lib.ListN.{length, take, drop}
 use Rattle.format.specs.Shapes.{Point, BoxXY, Measure, Multipoint, Parts, Shape, multipoint, parted, sum}
@@ -12,10 +12,11 @@ use Rattle.header.specs.declared.bbox.BBoxZ.{BBoxZ}
 abbrev pub bits : Float → ℕ
 bits x = toBits binary64 x
 
-abbrev pub pointsOf : List Float → List Point
-pointsOf [] = []
-pointsOf (x ∷ []) = []
-pointsOf (x ∷ y ∷ xy) = record { x = bits x; y = bits y } ∷ pointsOf xy
+-- a point for each x and y
+abbrev pub pointsOf : List Float → List Float → List Point
+pointsOf [] ys = []
+pointsOf (x ∷ xs) [] = []
+pointsOf (x ∷ xs) (y ∷ ys) = record { x = bits x; y = bits y } ∷ pointsOf xs ys
 
 -- so many points for each part, in turn
 unfoldable pub splitBy : List ℕ → List Point → List (List Point)
@@ -31,30 +32,30 @@ abbrev pub boxOf : BBoxZ → BoxXY
 boxOf b = record { xmin = bits (b .xmin); ymin = bits (b .ymin); xmax = bits (b .xmax); ymax = bits (b .ymax) }
 
 -- the shape with parts, in a layout with z or without, and with m or without
-unfoldable pub partsOf : Bool → Bool → BBoxZ → List ℕ → List Float → List Float → List Float → Parts
-partsOf z m b counts xy zs ms =
+unfoldable pub partsOf : Bool → Bool → BBoxZ → List ℕ → List Float → List Float → List Float → List Float → Parts
+partsOf z m b counts xs ys zs ms =
     record {
       box = boxOf b;
-      parts = splitBy counts (pointsOf xy);
+      parts = splitBy counts (pointsOf xs ys);
       z = measureOf z (b .zmin) (b .zmax) zs;
       m = measureOf m (b .mmin) (b .mmax) ms;
     }
 
--- the multipoint: every pair of xy is one of its points
-unfoldable pub multipointOf : Bool → Bool → BBoxZ → List Float → List Float → List Float → Multipoint
-multipointOf z m b xy zs ms =
+-- the multipoint
+unfoldable pub multipointOf : Bool → Bool → BBoxZ → List Float → List Float → List Float → List Float → Multipoint
+multipointOf z m b xs ys zs ms =
     record {
       box = boxOf b;
-      points = pointsOf xy;
+      points = pointsOf xs ys;
       z = measureOf z (b .zmin) (b .zmax) zs;
       m = measureOf m (b .mmin) (b .mmax) ms;
     }
 
 -- with parts, or a multipoint
-abbrev pub severalOf : Bool → Bool → Bool → BBoxZ → List ℕ → List Float → List Float → List Float → Shape
-severalOf true z m b counts xy zs ms = parted (partsOf z m b counts xy zs ms)
-severalOf false z m b counts xy zs ms = multipoint (multipointOf z m b xy zs ms)
+abbrev pub severalOf : Bool → Bool → Bool → BBoxZ → List ℕ → List Float → List Float → List Float → List Float → Shape
+severalOf true z m b counts xs ys zs ms = parted (partsOf z m b counts xs ys zs ms)
+severalOf false z m b counts xs ys zs ms = multipoint (multipointOf z m b xs ys zs ms)
 
--- how many points it has: n is the sum of the part counts, or as many as xy has pairs
+-- how many points it has: n is the sum of the part counts, or as many as there are x
 abbrev pub pointsLent : Bool → List ℕ → List Float → ℕ
-pointsLent parts counts xy = cond parts (sum counts) (length xy / 2)
+pointsLent parts counts xs = cond parts (sum counts) (length xs)

@@ -70,15 +70,16 @@ pub(crate) fn judge_body(
     z: bool,
     m: bool,
     counts: &[u32],
-    xy: &[f64],
+    xs: &[f64],
+    ys: &[f64],
     zs: &[f64],
     ms: &[f64],
     room: usize,
 ) -> LayoutAnswer
-    ensures { λ r. ⌜ saidLayout r ≡ layoutOf parts z m (now (counts .entry)) (now (xy .entry)) (now (zs .entry)) (now (ms .entry)) room ⌝ }
+    ensures { λ r. ⌜ saidLayout r ≡ layoutOf parts z m (now (counts .entry)) (now (xs .entry)) (now (ys .entry)) (now (zs .entry)) (now (ms .entry)) room ⌝ }
 {
-    let n = xy.len() / 2;
-    if xy.len() % 2 != 0 {
+    let n = xs.len();
+    if ys.len() != n {
         return LayoutAnswer::Tables;
     }
     if !counted(parts, counts, n) {

@@ -1,4 +1,4 @@
-// A body's bytes go in from the front of the output: box, counts, starts, xy, z and m. Internal: a caller shows that they fit.
+// A body's bytes go in from the front of the output: box, counts, starts, pairs, z and m. Internal: a caller shows that they fit.
 ghost use mathlib.Core.Path.{_≡_};
 ghost use mathlib.Core.Bool.{true};
 ghost use Prim.Native.Nat.{_+_, _*_, _≤_, _<_, _^_};
@@ -6,7 +6,7 @@ ghost use lib.ListN.{length};
 ghost use lib.Seq.{sets};
 ghost use Rattle.format.specs.Encoding.{measureBytes, shapeBytes};
 ghost use Rattle.format.specs.Shapes.{sum};
-ghost use Rattle.layouts.specs.Steps.{measureSize, startsBytes, countsBytes, frontBytes, frontSize, Placed};
+ghost use Rattle.layouts.specs.Steps.{measureSize, startsBytes, countsBytes, frontBytes, frontSize, pairsBytes, Placed};
 ghost use Rattle.layouts.specs.Tables.{measureOf, severalOf};
 use crate::judge::front_size;
 use crate::judge::measure_size;
@@ -50,6 +50,21 @@ fn put_front(out: &mut [u8], parts: bool, bbox: BBoxZ, counts: &[u32], n: usize)
     put_counts(out, parts, counts, n);
 }
 
+// The pairs: x and y of each point in turn.
+fn put_pairs(out: &mut [u8], at: usize, xs: &[f64], ys: &[f64])
+    requires { ⌜ (length (now ys) ≡ length (now xs)) × (at + 16 * length (now xs) ≤ length (now out)) ⌝ }
+    ensures { λ _. ⌜ now (out .exit) ≡ sets (now (out .entry)) at (pairsBytes (now (xs .entry)) (now (ys .entry))) ⌝ }
+{
+    let mut i = 0;
+    while i < xs.len() {
+        let x = xs[i];
+        let y = ys[i];
+        fields::put_le_f64(out, at + 16 * i, x);
+        fields::put_le_f64(out, at + 16 * i + 8, y);
+        i += 1;
+    }
+}
+
 // A range and its values, where the layout has them.
 fn put_measure(out: &mut [u8], at: usize, flag: bool, low: f64, high: f64, values: &[f64])
     requires { ⌜ at + measureSize flag (length (now values)) ≤ length (now out) ⌝ }
@@ -71,19 +86,20 @@ pub(crate) fn put_body(
     m: bool,
     bbox: BBoxZ,
     counts: &[u32],
-    xy: &[f64],
+    xs: &[f64],
+    ys: &[f64],
     zs: &[f64],
     ms: &[f64],
 )
-    requires { ⌜ Placed parts z m (now counts) (now xy) (now zs) (now ms) (length (now out)) ⌝ }
-    ensures { λ _. ⌜ now (out .exit) ≡ sets (now (out .entry)) 0 (shapeBytes (severalOf parts z m bbox (now (counts .entry)) (now (xy .entry)) (now (zs .entry)) (now (ms .entry)))) ⌝ }
+    requires { ⌜ Placed parts z m (now counts) (now xs) (now ys) (now zs) (now ms) (length (now out)) ⌝ }
+    ensures { λ _. ⌜ now (out .exit) ≡ sets (now (out .entry)) 0 (shapeBytes (severalOf parts z m bbox (now (counts .entry)) (now (xs .entry)) (now (ys .entry)) (now (zs .entry)) (now (ms .entry)))) ⌝ }
 {
-    let n = xy.len() / 2;
-    let xy_at = front_size(parts, counts.len());
-    let z_at = xy_at + 16 * n;
+    let n = xs.len();
+    let pairs_at = front_size(parts, counts.len());
+    let z_at = pairs_at + 16 * n;
     let m_at = z_at + measure_size(z, n);
     put_front(out, parts, bbox, counts, n);
-    fields::write_doubles(out, xy_at, xy);
+    put_pairs(out, pairs_at, xs, ys);
     put_measure(out, z_at, z, bbox.zmin, bbox.zmax, zs);
     put_measure(out, m_at, m, bbox.mmin, bbox.mmax, ms);
 }

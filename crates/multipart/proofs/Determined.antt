@@ -46,7 +46,7 @@ one-counts = told-one saidCounts tellCounts back
     back (CountsIs.Short at present) = refl
     back (CountsIs.Size at) = refl
 
--- ---- a body, with the four stores
+-- ---- a body, with the stores
 
 tellBody : Said Body → BodyAnswer
 tellBody (gives b) = BodyIs.Whole b
@@ -68,13 +68,14 @@ one-body = told-one saidBody tellBody back
 one-store : {A : Type 0} (r q : Said Body) (before after x y : List A) → r ≡ q → x ≡ unlessRefused r before after → y ≡ unlessRefused q before after → x ≡ y
 one-store r q before after x y e p o = p ∙ (ap (λ t. unlessRefused t before after) e ∙ sym o)
 
-module _ (parts z m : Bool) (s counts : List ℕ) (xy zs ms : List Float) (a b : BodyAnswer) (counts₁ counts₂ : List ℕ) (xy₁ xy₂ zs₁ zs₂ ms₁ ms₂ : List Float) where
-  pub one-result : ReadsBody parts z m s counts xy zs ms a counts₁ xy₁ zs₁ ms₁ → ReadsBody parts z m s counts xy zs ms b counts₂ xy₂ zs₂ ms₂ → (a ≡ b) × (counts₁ ≡ counts₂) × (xy₁ ≡ xy₂) × (zs₁ ≡ zs₂) × (ms₁ ≡ ms₂)
+module _ (parts z m : Bool) (s counts : List ℕ) (xs ys zs ms : List Float) (a b : BodyAnswer) (counts₁ counts₂ : List ℕ) (xs₁ xs₂ ys₁ ys₂ zs₁ zs₂ ms₁ ms₂ : List Float) where
+  pub one-result : ReadsBody parts z m s counts xs ys zs ms a counts₁ xs₁ ys₁ zs₁ ms₁ → ReadsBody parts z m s counts xs ys zs ms b counts₂ xs₂ ys₂ zs₂ ms₂ → (a ≡ b) × (counts₁ ≡ counts₂) × (xs₁ ≡ xs₂) × (ys₁ ≡ ys₂) × (zs₁ ≡ zs₂) × (ms₁ ≡ ms₂)
   one-result p q =
       let e : saidBody a ≡ saidBody b = p .says ∙ sym (q .says) in (
         one-body a b e,
         one-store _ _ _ _ _ _ e (p .counts-are) (q .counts-are),
-        one-store _ _ _ _ _ _ e (p .xy-are) (q .xy-are),
+        one-store _ _ _ _ _ _ e (p .x-are) (q .x-are),
+        one-store _ _ _ _ _ _ e (p .y-are) (q .y-are),
         one-store _ _ _ _ _ _ e (p .z-are) (q .z-are),
         one-store _ _ _ _ _ _ e (p .m-are) (q .m-are),
       )

@@ -41,10 +41,10 @@ rest-numbered parts z m s =
     append-numbered (pairTests parts s) _ (pairs-numbered parts s)
     (append-numbered (measureTests z n (zAt parts s) s) _ (measure-numbered z n (zAt parts s) s) (measure-numbered m n (mAt parts z s) s))
 
-pub body-numbered : (parts z m : Bool) (s : List ℕ) (counts xy zs ms : ℕ) → Numbered (bodyOf parts z m s counts xy zs ms)
+pub body-numbered : (parts z m : Bool) (s : List ℕ) (counts xs ys zs ms : ℕ) → Numbered (bodyOf parts z m s counts xs ys zs ms)
 unfolding bodyOf
-body-numbered parts z m s counts xy zs ms =
-    let last : List (Bool × Said Body) = roomTests parts z m s counts xy zs ms in
+body-numbered parts z m s counts xs ys zs ms =
+    let last : List (Bool × Said Body) = roomTests parts z m s counts xs ys zs ms in
     let more = restTests parts z m s ++ last in
     first-numbered (countTests parts s ++ more) (gives (bodyIn parts z m s))
     (append-numbered (countTests parts s) more (all-counts Body parts s) (append-numbered (restTests parts z m s) last (rest-numbered parts z m s) (omega arith))) tt

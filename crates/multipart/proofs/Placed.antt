@@ -133,13 +133,13 @@ module _ (parts z m : Bool) (s : List ℕ) (a : Said Body) (k : Placed (bodyWidt
   rest-placed : numberAt parts + 4 ≤ length s → Placed (bodyWidth parts s) s (first (restTests parts z m s) a)
   rest-placed h = rw (first-append (pairTests parts s) (zTests ++ mTests) a, first-append zTests mTests a) (pairs-placed parts s _ h after-pairs)
 
-pub body-placed : (parts z m : Bool) (s : List ℕ) (counts xy zs ms : ℕ) → Placed (bodyWidth parts s) s (bodyOf parts z m s counts xy zs ms)
+pub body-placed : (parts z m : Bool) (s : List ℕ) (counts xs ys zs ms : ℕ) → Placed (bodyWidth parts s) s (bodyOf parts z m s counts xs ys zs ms)
 unfolding bodyOf
-body-placed parts z m s counts xy zs ms =
+body-placed parts z m s counts xs ys zs ms =
     let W : ℕ → ℕ = bodyWidth parts s in
     let body : Said Body = gives (bodyIn parts z m s) in
-    let last = roomTests parts z m s counts xy zs ms in
-    let n : Placed W s (first last body) = test-placed W s (hasRoom z m (partsIn parts s) (pointsIn parts s) counts xy zs ms) body _ (elsewhere W s 6 _ refl) (λ i. tt) in
+    let last = roomTests parts z m s counts xs ys zs ms in
+    let n : Placed W s (first last body) = test-placed W s (hasRoom z m (partsIn parts s) (pointsIn parts s) counts xs ys zs ms) body _ (elsewhere W s 6 _ refl) (λ i. tt) in
     rw (first-append (countTests parts s) (restTests parts z m s ++ last) body, first-append (restTests parts z m s) last body)
     (counts-before parts s (first (restTests parts z m s) (first last body)) (λ h. rest-placed parts z m s (first last body) n h))
 
@@ -148,5 +148,5 @@ body-placed parts z m s counts xy zs ms =
 pub counts-offset : (parts : Bool) (s : List ℕ) (r : Said Two) → r ≡ countsOf parts s → offset r ≤ length s
 counts-offset parts s r e = offset-within (bodyWidth parts s) s r (rw e (counts-placed parts s))
 
-pub body-offset : (parts z m : Bool) (s : List ℕ) (counts xy zs ms : ℕ) (r : Said Body) → r ≡ bodyOf parts z m s counts xy zs ms → offset r ≤ length s
-body-offset parts z m s counts xy zs ms r e = offset-within (bodyWidth parts s) s r (rw e (body-placed parts z m s counts xy zs ms))
+pub body-offset : (parts z m : Bool) (s : List ℕ) (counts xs ys zs ms : ℕ) (r : Said Body) → r ≡ bodyOf parts z m s counts xs ys zs ms → offset r ≤ length s
+body-offset parts z m s counts xs ys zs ms r e = offset-within (bodyWidth parts s) s r (rw e (body-placed parts z m s counts xs ys zs ms))

@@ -31,17 +31,17 @@ pub no-data : noData ≡ ofInt binary64 (negsuc (10 ^ 39 - 1))
 unfolding noData ofBits ofInt
 no-data = refl
 
-pub raised-turn : (ms : List Float) (n at i : ℕ) (s : List ℕ) → i < n → sets (set ms i (raised (leF64 (at + 8 * i) s))) (i + 1) (map raised (doublesAt (n - (i + 1)) (at + 8 * (i + 1)) s)) ≡ sets ms i (map raised (doublesAt (n - i) (at + 8 * i) s))
-raised-turn ms n at i s h = rw (doubles-on n at i s h, add-one)
+pub raised-turn : (ms : List Float) (n at i : ℕ) (s : List ℕ) → i < n → sets (set ms i (raised (leF64 (at + 8 * i) s))) (i + 1) (map raised (doublesAt 8 (n - (i + 1)) (at + 8 * (i + 1)) s)) ≡ sets ms i (map raised (doublesAt 8 (n - i) (at + 8 * i) s))
+raised-turn ms n at i s h = rw (doubles-on 8 n at i s h, add-one)
 
-pub raised-end : (ms : List Float) (n at i : ℕ) (s : List ℕ) → n ≤ i → sets ms i (map raised (doublesAt (n - i) (at + 8 * i) s)) ≡ ms
-raised-end ms n at i s h = rw (doubles-end n (at + 8 * i) i s h)
+pub raised-end : (ms : List Float) (n at i : ℕ) (s : List ℕ) → n ≤ i → sets ms i (map raised (doublesAt 8 (n - i) (at + 8 * i) s)) ≡ ms
+raised-end ms n at i s h = rw (doubles-end 8 n (at + 8 * i) i s h)
 
 -- ---- the first k entries of a store were lent, and are back
 
-pub front-back : (out front : List Float) (k at : ℕ) (s : List ℕ) → k ≤ length out → front ≡ doublesAt (length (take (k - 0) out)) at s → front ++ drop (k - 0) out ≡ sets out 0 (doublesAt k at s)
+pub front-back : (out front : List Float) (k at : ℕ) (s : List ℕ) → k ≤ length out → front ≡ doublesAt 8 (length (take (k - 0) out)) at s → front ++ drop (k - 0) out ≡ sets out 0 (doublesAt 8 k at s)
 front-back out front k at s h e =
-    let d = length-doublesAt k at s in
-    let f : front ≡ doublesAt k at s = e ∙ rw (sub-zero, length-take-le k out h) in
-    let g : 0 + length (doublesAt k at s) ≤ length out = rw d (omega arith) in
-    rw (f, sub-zero) (sym (sets-eq (doublesAt k at s) out 0 g ∙ rw (zero-add, d)))
+    let d = length-doublesAt 8 k at s in
+    let f : front ≡ doublesAt 8 k at s = e ∙ rw (sub-zero, length-take-le k out h) in
+    let g : 0 + length (doublesAt 8 k at s) ≤ length out = rw d (omega arith) in
+    rw (f, sub-zero) (sym (sets-eq (doublesAt 8 k at s) out 0 g ∙ rw (zero-add, d)))

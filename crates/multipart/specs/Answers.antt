@@ -17,7 +17,7 @@ use Rattle.multipart.specs.declared.CountsAnswer.{CountsAnswer}
 use Rattle.multipart.specs.declared.CountsAnswer.the-variants as CountsIs
 use Rattle.multipart.specs.declared.BodyAnswer.{BodyAnswer}
 use Rattle.multipart.specs.declared.BodyAnswer.the-variants as BodyIs
-use Rattle.multipart.specs.Body.{partsIn, numberAt, countTests, countsIn, xyIn, zIn, mIn, bodyOf}
+use Rattle.multipart.specs.Body.{partsIn, numberAt, countTests, countsIn, xIn, yIn, zIn, mIn, bodyOf}
 use Rattle.multipart.specs.Parts.{isCount}
 
 -- ---- a part's count, from its start and its end
@@ -52,9 +52,10 @@ saidBody (BodyIs.Size at) = wrongSize at
 saidBody (BodyIs.Room parts points) = room parts points
 
 -- what reading a body comes to: the answer, and the stores, of which entries past what is stored stay
-pub record ReadsBody (parts z m : Bool) (s counts : List ℕ) (xy zs ms : List Float) (answer : BodyAnswer) (counts′ : List ℕ) (xy′ zs′ ms′ : List Float) : Type 0 where
-  pub says : saidBody answer ≡ bodyOf parts z m s (length counts) (length xy) (length zs) (length ms)
+pub record ReadsBody (parts z m : Bool) (s counts : List ℕ) (xs ys zs ms : List Float) (answer : BodyAnswer) (counts′ : List ℕ) (xs′ ys′ zs′ ms′ : List Float) : Type 0 where
+  pub says : saidBody answer ≡ bodyOf parts z m s (length counts) (length xs) (length ys) (length zs) (length ms)
   pub counts-are : counts′ ≡ unlessRefused (saidBody answer) counts (sets counts 0 (countsIn parts s))
-  pub xy-are : xy′ ≡ unlessRefused (saidBody answer) xy (sets xy 0 (xyIn parts s))
+  pub x-are : xs′ ≡ unlessRefused (saidBody answer) xs (sets xs 0 (xIn parts s))
+  pub y-are : ys′ ≡ unlessRefused (saidBody answer) ys (sets ys 0 (yIn parts s))
   pub z-are : zs′ ≡ unlessRefused (saidBody answer) zs (sets zs 0 (zIn parts z s))
   pub m-are : ms′ ≡ unlessRefused (saidBody answer) ms (sets ms 0 (mIn parts z m s))

@@ -67,14 +67,18 @@ rangeAt at s = record { low = leF64 at s; high = leF64 (at + 8) s }
 abbrev pub noRange : Range
 noRange = record { low = ofInt binary64 (pos 0); high = ofInt binary64 (pos 0) }
 
-unfoldable pub xyIn : Bool → List ℕ → List Float
-xyIn parts s = doublesAt (2 * pointsIn parts s) (pairsAt parts s) s
+-- a pair is a point's x and then its y: the x of each point that is read, and the y
+unfoldable pub xIn : Bool → List ℕ → List Float
+xIn parts s = doublesAt 16 (pointsIn parts s) (pairsAt parts s) s
+
+unfoldable pub yIn : Bool → List ℕ → List Float
+yIn parts s = doublesAt 16 (pointsIn parts s) (pairsAt parts s + 8) s
 
 unfoldable pub zIn : Bool → Bool → List ℕ → List Float
-zIn parts z s = cond z (doublesAt (pointsIn parts s) (zAt parts s + 16) s) []
+zIn parts z s = cond z (doublesAt 8 (pointsIn parts s) (zAt parts s + 16) s) []
 
 unfoldable pub mIn : Bool → Bool → Bool → List ℕ → List Float
-mIn parts z m s = cond m (map raised (doublesAt (pointsIn parts s) (mAt parts z s + 16) s)) []
+mIn parts z m s = cond m (map raised (doublesAt 8 (pointsIn parts s) (mAt parts z s + 16) s)) []
 
 unfoldable pub bodyIn : Bool → Bool → Bool → List ℕ → Body
 bodyIn parts z m s =
@@ -88,9 +92,9 @@ bodyIn parts z m s =
 
 -- ---- the tests
 
--- p parts and n points fit into the used stores, which have these lengths
-abbrev pub hasRoom : Bool → Bool → ℕ → ℕ → ℕ → ℕ → ℕ → ℕ → Bool
-hasRoom z m p n counts xy zs ms = leb p counts && leb (2 * n) xy && (not z || leb n zs) && (not m || leb n ms)
+-- p parts and n points fit into the used stores, which have these lengths: x and y hold n each
+abbrev pub hasRoom : Bool → Bool → ℕ → ℕ → ℕ → ℕ → ℕ → ℕ → ℕ → Bool
+hasRoom z m p n counts xs ys zs ms = leb p counts && leb n xs && leb n ys && (not z || leb n zs) && (not m || leb n ms)
 
 module _ {A : Type 0} where
   -- box xy, then p and n, or n alone; then 3 if p is negative, else if n is
@@ -124,11 +128,11 @@ module _ {A : Type 0} where
       ++ measureTests m (pointsIn parts s) (mAt parts z s) s)
 
   -- room is judged last
-  abbrev pub roomTests : Bool → Bool → Bool → List ℕ → ℕ → ℕ → ℕ → ℕ → List (Bool × Said A)
-  roomTests parts z m s counts xy zs ms =
-      (hasRoom z m (partsIn parts s) (pointsIn parts s) counts xy zs ms, room (partsIn parts s) (pointsIn parts s)) ∷ []
+  abbrev pub roomTests : Bool → Bool → Bool → List ℕ → ℕ → ℕ → ℕ → ℕ → ℕ → List (Bool × Said A)
+  roomTests parts z m s counts xs ys zs ms =
+      (hasRoom z m (partsIn parts s) (pointsIn parts s) counts xs ys zs ms, room (partsIn parts s) (pointsIn parts s)) ∷ []
 
 -- what reading a body says, with stores of these lengths
-unfoldable pub bodyOf : Bool → Bool → Bool → List ℕ → ℕ → ℕ → ℕ → ℕ → Said Body
-bodyOf parts z m s counts xy zs ms =
-    first (countTests parts s ++ (restTests parts z m s ++ roomTests parts z m s counts xy zs ms)) (gives (bodyIn parts z m s))
+unfoldable pub bodyOf : Bool → Bool → Bool → List ℕ → ℕ → ℕ → ℕ → ℕ → ℕ → Said Body
+bodyOf parts z m s counts xs ys zs ms =
+    first (countTests parts s ++ (restTests parts z m s ++ roomTests parts z m s counts xs ys zs ms)) (gives (bodyIn parts z m s))

@@ -16,7 +16,7 @@ use Rattle.multipart.specs.declared.Body.{Body}
 use Rattle.multipart.specs.declared.judge.Walk.{Walk}
 use Rattle.multipart.specs.declared.judge.Walk.the-variants.{On, Short, Size}
 use Rattle.multipart.specs.Parts.{countOf, differences, startsAt}
-use Rattle.multipart.specs.Body.{partsIn, numberAt, countsIn, pointsIn, zAt, mAt, rangeAt, noRange, xyIn, zIn, mIn, bodyIn, countTests, partTests, measureTests, pairTests, restTests, hasRoom}
+use Rattle.multipart.specs.Body.{partsIn, numberAt, countsIn, pointsIn, zAt, mAt, rangeAt, noRange, xIn, yIn, zIn, mIn, bodyIn, countTests, partTests, measureTests, pairTests, restTests, hasRoom}
 
 -- ---- tests, whatever follows them
 
@@ -93,17 +93,18 @@ bodyAt z m p points end s =
     }
 
 -- a body that was judged, with these parts and points, and stores of these lengths that have room for it
-pub record Ready (parts z m : Bool) (s : List ℕ) (p : ℕ) (n : ℤ) (points counts xy zs ms : ℕ) : Type 0 where
+pub record Ready (parts z m : Bool) (s : List ℕ) (p : ℕ) (n : ℤ) (points counts xs ys zs ms : ℕ) : Type 0 where
   pub parts-are : p ≡ partsIn parts s
   pub number-is : n ≡ leI32 (numberAt parts) s
   pub points-are : points ≡ pointsIn parts s
   pub ends : endAfter m (pointsIn parts s) (mAt parts z s) ≤ length s
-  pub room : hasRoom z m p points counts xy zs ms ≡ true
+  pub room : hasRoom z m p points counts xs ys zs ms ≡ true
 
 -- what is stored of it
-pub record Stores (parts z m : Bool) (s counts : List ℕ) (xy zs ms : List Float) (body : Body) (counts′ : List ℕ) (xy′ zs′ ms′ : List Float) : Type 0 where
+pub record Stores (parts z m : Bool) (s counts : List ℕ) (xs ys zs ms : List Float) (body : Body) (counts′ : List ℕ) (xs′ ys′ zs′ ms′ : List Float) : Type 0 where
   pub body-is : body ≡ bodyIn parts z m s
   pub counts-are : counts′ ≡ sets counts 0 (countsIn parts s)
-  pub xy-are : xy′ ≡ sets xy 0 (xyIn parts s)
+  pub x-are : xs′ ≡ sets xs 0 (xIn parts s)
+  pub y-are : ys′ ≡ sets ys 0 (yIn parts s)
   pub z-are : zs′ ≡ sets zs 0 (zIn parts z s)
   pub m-are : ms′ ≡ sets ms 0 (mIn parts z m s)

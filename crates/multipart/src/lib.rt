@@ -104,20 +104,31 @@ fn read_rest(
     m: bool,
     p: usize,
     counts: &mut [u32],
-    xy: &mut [f64],
+    xs: &mut [f64],
+    ys: &mut [f64],
     zs: &mut [f64],
     ms: &mut [f64],
 ) -> BodyAnswer
     requires { ⌜ Counted parts (now s) p ⌝ }
-    ensures { λ r. ⌜ ReadsBody parts z m (now (s .entry)) (now (counts .entry)) (now (xy .entry)) (now (zs .entry)) (now (ms .entry)) r (now (counts .exit)) (now (xy .exit)) (now (zs .exit)) (now (ms .exit)) ⌝ }
+    ensures { λ r. ⌜ ReadsBody parts z m (now (s .entry)) (now (counts .entry)) (now (xs .entry)) (now (ys .entry)) (now (zs .entry)) (now (ms .entry)) r (now (counts .exit)) (now (xs .exit)) (now (ys .exit)) (now (zs .exit)) (now (ms .exit)) ⌝ }
 {
     let n = fields::le_i32_at(s, judge::number_at(parts));
     match judge::judge_rest(s, parts, z, m, p, n) {
         Walk::Short(at, present) => BodyAnswer::Short(at, present),
         Walk::Size(at) => BodyAnswer::Size(at),
         Walk::On(points) => {
-            if store::has_room(z, m, p, points, counts.len(), xy.len(), zs.len(), ms.len()) {
-                let body = store::store_body(s, parts, z, m, p, n, points, counts, xy, zs, ms);
+            if store::has_room(
+                z,
+                m,
+                p,
+                points,
+                counts.len(),
+                xs.len(),
+                ys.len(),
+                zs.len(),
+                ms.len(),
+            ) {
+                let body = store::store_body(s, parts, z, m, p, n, points, counts, xs, ys, zs, ms);
                 BodyAnswer::Whole(body)
             } else {
                 BodyAnswer::Room(p, points)
@@ -133,15 +144,16 @@ pub fn read_body(
     z: bool,
     m: bool,
     counts: &mut [u32],
-    xy: &mut [f64],
+    xs: &mut [f64],
+    ys: &mut [f64],
     zs: &mut [f64],
     ms: &mut [f64],
 ) -> BodyAnswer
-    ensures { λ r. ⌜ ReadsBody parts z m (now (s .entry)) (now (counts .entry)) (now (xy .entry)) (now (zs .entry)) (now (ms .entry)) r (now (counts .exit)) (now (xy .exit)) (now (zs .exit)) (now (ms .exit)) ⌝ }
+    ensures { λ r. ⌜ ReadsBody parts z m (now (s .entry)) (now (counts .entry)) (now (xs .entry)) (now (ys .entry)) (now (zs .entry)) (now (ms .entry)) r (now (counts .exit)) (now (xs .exit)) (now (ys .exit)) (now (zs .exit)) (now (ms .exit)) ⌝ }
 {
     match read_counts(s, parts) {
         CountsAnswer::Short(at, present) => BodyAnswer::Short(at, present),
         CountsAnswer::Size(at) => BodyAnswer::Size(at),
-        CountsAnswer::Are(p, _) => read_rest(s, parts, z, m, p as usize, counts, xy, zs, ms),
+        CountsAnswer::Are(p, _) => read_rest(s, parts, z, m, p as usize, counts, xs, ys, zs, ms),
     }
 }

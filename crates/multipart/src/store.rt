@@ -50,23 +50,30 @@ fn store_counts(s: &[u8], parts: bool, p: usize, n: i32, counts: &mut [u32])
 // k doubles from a place on.
 fn store_doubles(s: &[u8], at: usize, k: usize, out: &mut [f64])
     requires { ⌜ (at + 8 * k ≤ length (now s)) × (k ≤ length (now out)) ⌝ }
-    ensures { λ _. ⌜ now (out .exit) ≡ sets (now (out .entry)) 0 (doublesAt k at (now (s .entry))) ⌝ }
+    ensures { λ _. ⌜ now (out .exit) ≡ sets (now (out .entry)) 0 (doublesAt 8 k at (now (s .entry))) ⌝ }
 {
     fields::read_doubles(s, at, &mut out[0..k]);
 }
 
-// The pairs of so many points from a place on: from the first pair on, whatever the starts are.
-fn store_pairs(s: &[u8], at: usize, points: usize, xy: &mut [f64])
-    requires { ⌜ (at + 16 * points ≤ length (now s)) × (2 * points ≤ length (now xy)) ⌝ }
-    ensures { λ _. ⌜ now (xy .exit) ≡ sets (now (xy .entry)) 0 (doublesAt (2 * points) at (now (s .entry))) ⌝ }
+// The x and the y of so many points, whose pairs stand from a place on: from the first pair on, whatever the starts are.
+fn store_pairs(s: &[u8], at: usize, points: usize, xs: &mut [f64], ys: &mut [f64])
+    requires { ⌜ (at + 16 * points ≤ length (now s)) × (points ≤ length (now xs)) × (points ≤ length (now ys)) ⌝ }
+    ensures { λ _. ⌜ (now (xs .exit) ≡ sets (now (xs .entry)) 0 (doublesAt 16 points at (now (s .entry)))) × (now (ys .exit) ≡ sets (now (ys .entry)) 0 (doublesAt 16 points (at + 8) (now (s .entry)))) ⌝ }
 {
-    store_doubles(s, at, 2 * points, xy);
+    let mut i: usize = 0;
+    while i < points {
+        let x = fields::le_f64_at(s, at + 16 * i);
+        let y = fields::le_f64_at(s, at + 8 + 16 * i);
+        xs[i] = x;
+        ys[i] = y;
+        i += 1;
+    }
 }
 
 // The n values behind a range, where the flag is set.
 fn store_z(s: &[u8], z: bool, n: usize, at: usize, zs: &mut [f64])
     requires { ⌜ (endAfter z n at ≤ length (now s)) × (cond z n 0 ≤ length (now zs)) ⌝ }
-    ensures { λ _. ⌜ now (zs .exit) ≡ sets (now (zs .entry)) 0 (cond z (doublesAt n (at + 16) (now (s .entry))) []) ⌝ }
+    ensures { λ _. ⌜ now (zs .exit) ≡ sets (now (zs .entry)) 0 (cond z (doublesAt 8 n (at + 16) (now (s .entry))) []) ⌝ }
 {
     if z {
         store_doubles(s, at + 16, n, zs);
@@ -83,7 +90,7 @@ fn raise(x: f64) -> f64
 // The n values behind a range, raised, where the flag is set.
 fn store_m(s: &[u8], m: bool, n: usize, at: usize, ms: &mut [f64])
     requires { ⌜ (endAfter m n at ≤ length (now s)) × (cond m n 0 ≤ length (now ms)) ⌝ }
-    ensures { λ _. ⌜ now (ms .exit) ≡ sets (now (ms .entry)) 0 (cond m (map raised (doublesAt n (at + 16) (now (s .entry)))) []) ⌝ }
+    ensures { λ _. ⌜ now (ms .exit) ≡ sets (now (ms .entry)) 0 (cond m (map raised (doublesAt 8 n (at + 16) (now (s .entry)))) []) ⌝ }
 {
     if m {
         let mut i: usize = 0;
@@ -127,16 +134,20 @@ pub(crate) fn has_room(
     p: usize,
     n: usize,
     counts: usize,
-    xy: usize,
+    xs: usize,
+    ys: usize,
     zs: usize,
     ms: usize,
 ) -> bool
-    ensures { λ r. ⌜ r ≡ hasRoom z m p n counts xy zs ms ⌝ }
+    ensures { λ r. ⌜ r ≡ hasRoom z m p n counts xs ys zs ms ⌝ }
 {
     if counts < p {
         return false;
     }
-    if xy / 2 < n {
+    if xs < n {
+        return false;
+    }
+    if ys < n {
         return false;
     }
     if holds(z, n, zs) {
@@ -176,17 +187,18 @@ pub(crate) fn store_body(
     n: i32,
     points: usize,
     counts: &mut [u32],
-    xy: &mut [f64],
+    xs: &mut [f64],
+    ys: &mut [f64],
     zs: &mut [f64],
     ms: &mut [f64],
 ) -> Body
-    requires { ⌜ Ready parts z m (now s) p n points (length (now counts)) (length (now xy)) (length (now zs)) (length (now ms)) ⌝ }
-    ensures { λ r. ⌜ Stores parts z m (now (s .entry)) (now (counts .entry)) (now (xy .entry)) (now (zs .entry)) (now (ms .entry)) r (now (counts .exit)) (now (xy .exit)) (now (zs .exit)) (now (ms .exit)) ⌝ }
+    requires { ⌜ Ready parts z m (now s) p n points (length (now counts)) (length (now xs)) (length (now ys)) (length (now zs)) (length (now ms)) ⌝ }
+    ensures { λ r. ⌜ Stores parts z m (now (s .entry)) (now (counts .entry)) (now (xs .entry)) (now (ys .entry)) (now (zs .entry)) (now (ms .entry)) r (now (counts .exit)) (now (xs .exit)) (now (ys .exit)) (now (zs .exit)) (now (ms .exit)) ⌝ }
 {
     let at = judge::pairs_at(parts, p);
     let end = at + 16 * points;
     store_counts(s, parts, p, n, counts);
-    store_pairs(s, at, points, xy);
+    store_pairs(s, at, points, xs, ys);
     store_z(s, z, points, end, zs);
     store_m(s, m, points, judge::end_after(z, points, end), ms);
     body_at(s, z, m, p, points, end)

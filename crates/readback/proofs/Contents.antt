@@ -44,6 +44,6 @@ module _ (k : Kind) (s : Shape) (t : TakenKind k) where
           t .taken,
         )
 
-    pub read-as : (counts xy zs ms : ℕ)
-        → recordOf Wants.Any (size s) (content k s) counts xy zs ms ≡ byForm (formOf k) k (size s) (content k s) counts xy zs ms
-    read-as counts xy zs ms = sym (by-kind Wants.Any (size s) (content k s) k counts xy zs ms front-pass kind-back)
+    pub read-as : (counts xs ys zs ms : ℕ)
+        → recordOf Wants.Any (size s) (content k s) counts xs ys zs ms ≡ byForm (formOf k) k (size s) (content k s) counts xs ys zs ms
+    read-as counts xs ys zs ms = sym (by-kind Wants.Any (size s) (content k s) k counts xs ys zs ms front-pass kind-back)

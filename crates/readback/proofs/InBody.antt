@@ -17,15 +17,15 @@ use Rattle.format.specs.Shapes.{Point, BoxXY, Measure, there, MeasuresOf}
 use Rattle.format.specs.WellFormed.{coordinates}
 use Rattle.format.proofs.Laid.{boxDoubles, pointsDoubles, doubles-laid}
 use Rattle.format.proofs.OrderLaws.{fields-whole}
-use Rattle.format.proofs.Pairs.{length-coordinates}
+use Rattle.format.proofs.Pairs.{length-coordinates, xs-back, ys-back}
 use Rattle.format.proofs.Places.{Stands, front, back}
-use Rattle.format.proofs.Runs.{run, length-run, double-at, doubles-back}
-use Rattle.multipart.specs.Body.{partsIn, numberAt, pointsIn, zAt, mAt, raised, xyIn, zIn, mIn, hasRoom, bodyIn, bodyOf, countTests, measureTests, pairTests, restTests}
+use Rattle.format.proofs.Runs.{run, length-run, double-at}
+use Rattle.multipart.specs.Body.{partsIn, numberAt, pointsIn, zAt, mAt, raised, xIn, yIn, zIn, mIn, hasRoom, bodyIn, bodyOf, countTests, measureTests, pairTests, restTests}
 use Rattle.multipart.specs.Walks.{Passes}
-use Rattle.multipart.proofs.BodyLaws.{xy-here, z-here, m-here, body-here, whole-body}
+use Rattle.multipart.proofs.BodyLaws.{x-here, y-here, z-here, m-here, body-here, whole-body}
 use Rattle.multipart.proofs.RestLaws
 use Rattle.readback.specs.Held.{DoublesHeld}
-use Rattle.readback.specs.ReadBack.{value, bodyAs, RoomFor, xyOf, valuesOf}
+use Rattle.readback.specs.ReadBack.{value, bodyAs, RoomFor, xsOf, ysOf, valuesOf}
 use Rattle.readback.proofs.Measures.{laid, length-laid, range-back, values-back, map-cond}
 
 -- where the pairs, z and m stand
@@ -90,12 +90,14 @@ module _ (f : Bool) (k : Kind) (b : List ℕ) (p : ℕ) (box : BoxXY) (ps : List
 
   -- ---- the tables
 
-  pub xy-are : xyIn f b ≡ xyOf ps
-  xy-are =
-      sym (xy-here f b p n (a .parts-are) (a .points-are))
-      ∙ doubles-back (pairsPlace f p) (coordinates ps) b (a .held .points-held)
-      (front (pairsPlace f p) (16 * n) (run 8 (coordinates ps)) measures b length-pairs at-doubles)
-      (2 * n) (length-coordinates ps)
+  at-pairs : Stands (pairsPlace f p) (run 8 (coordinates ps)) b
+  at-pairs = front (pairsPlace f p) (16 * n) (run 8 (coordinates ps)) measures b length-pairs at-doubles
+
+  pub x-are : xIn f b ≡ xsOf ps
+  x-are = sym (x-here f b p n (a .parts-are) (a .points-are)) ∙ xs-back b ps (pairsPlace f p) (a .held .points-held) at-pairs
+
+  pub y-are : yIn f b ≡ ysOf ps
+  y-are = sym (y-here f b p n (a .parts-are) (a .points-are)) ∙ ys-back b ps (pairsPlace f p) (a .held .points-held) at-pairs
 
   pub z-are : zIn f (there z) b ≡ valuesOf z
   z-are = sym (z-here f b p n (a .parts-are) (a .points-are) (there z)) ∙ values-back n (zPlace f p n) b z (a .of-kind .covers-z) (a .held .z-held) at-z
@@ -136,11 +138,11 @@ module _ (f : Bool) (k : Kind) (b : List ℕ) (p : ℕ) (box : BoxXY) (ps : List
         range-back n _ b m (a .held .m-held) at-m,
       )
 
-  module _ (counts xy zs ms : ℕ) (room : RoomFor p n z m counts xy zs ms) where
-    fits : hasRoom (there z) (there m) p n counts xy zs ms ≡ true
-    fits = rw (le-leb p counts (room .0), le-leb (2 * n) xy (room .1), store-fits (there z) n zs (room .2), store-fits (there m) n ms (room .3))
+  module _ (counts xs ys zs ms : ℕ) (room : RoomFor p n z m counts xs ys zs ms) where
+    fits : hasRoom (there z) (there m) p n counts xs ys zs ms ≡ true
+    fits = rw (le-leb p counts (room .0), le-leb n xs (room .1), le-leb n ys (room .2), store-fits (there z) n zs (room .3), store-fits (there m) n ms (room .4))
 
-    pub body-said : bodyOf f (there z) (there m) b counts xy zs ms ≡ gives (bodyAs p box ps z m)
+    pub body-said : bodyOf f (there z) (there m) b counts xs ys zs ms ≡ gives (bodyAs p box ps z m)
     body-said =
-        sym (whole-body f (there z) (there m) b counts xy zs ms (a .counts-pass) p n (a .parts-are) (a .points-are) rest-pass fits)
+        sym (whole-body f (there z) (there m) b counts xs ys zs ms (a .counts-pass) p n (a .parts-are) (a .points-are) rest-pass fits)
         ∙ ap gives body-is

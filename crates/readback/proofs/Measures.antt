@@ -43,7 +43,7 @@ module _ (n at : ℕ) (s : List ℕ) where
       let high = double-back (r .high) (at + 8) s (f .1 .0) (front (at + 8) 8 (leBytes 8 (r .high)) (run 8 (r .values)) s (length-leBytes 8 (r .high)) behind) in
       λ i. record { low = low i; high = high i }
 
-  pub values-back : (o : Option Measure) → Covers n o → measureHeld o → Stands at (laid n o) s → cond (there o) (doublesAt n (at + 16) s) [] ≡ valuesOf o
+  pub values-back : (o : Option Measure) → Covers n o → measureHeld o → Stands at (laid n o) s → cond (there o) (doublesAt 8 n (at + 16) s) [] ≡ valuesOf o
   values-back none c f p = refl
   values-back (some r) c f p =
       doubles-back (at + 16) (r .values) s (f .1 .1)

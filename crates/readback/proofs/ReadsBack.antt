@@ -22,7 +22,7 @@ use Rattle.rules.specs.Meaning.{TakenKind}
 use Rattle.meaning.proofs.Decode.{if-only}
 use Rattle.readback.specs.ReadBack.{bodyAs, size, RoomFor, ReadsBack, StoresBack}
 use Rattle.readback.proofs.Contents.{code-back, kind-back, read-as}
-use Rattle.readback.proofs.InBody.{LaidOut, xy-are, z-are, m-are, body-said}
+use Rattle.readback.proofs.InBody.{LaidOut, x-are, y-are, z-are, m-are, body-said}
 use Rattle.readback.proofs.InMultipoint
 use Rattle.readback.proofs.InParts
 use Rattle.readback.proofs.Points.{point-said}
@@ -33,10 +33,10 @@ stores-back k null o v small = tt
 stores-back k (point xy z m) o v small = tt
 stores-back k (multipoint s) o v small =
     let a = InMultipoint.laid-out k s o v small in
-    rw (content-behind k (multipoint s)) (InMultipoint.counts-are k s o v small, xy-are false k _ _ _ _ _ _ a, z-are false k _ _ _ _ _ _ a, m-are false k _ _ _ _ _ _ a)
+    rw (content-behind k (multipoint s)) (InMultipoint.counts-are k s o v small, x-are false k _ _ _ _ _ _ a, y-are false k _ _ _ _ _ _ a, z-are false k _ _ _ _ _ _ a, m-are false k _ _ _ _ _ _ a)
 stores-back k (parted s) o v small =
     let a = InParts.laid-out k s o v small in
-    rw (content-behind k (parted s)) (InParts.counts-are k s o v small, xy-are true k _ _ _ _ _ _ a, z-are true k _ _ _ _ _ _ a, m-are true k _ _ _ _ _ _ a)
+    rw (content-behind k (parted s)) (InParts.counts-are k s o v small, x-are true k _ _ _ _ _ _ a, y-are true k _ _ _ _ _ _ a, z-are true k _ _ _ _ _ _ a, m-are true k _ _ _ _ _ _ a)
 
 -- a shape of several points, in p parts or as a multipoint
 module _ (f : Bool) (k : Kind) (s : Shape) (p : ℕ) (box : BoxXY) (ps : List Point) (z m : Option Measure) (t : TakenKind k) (a : LaidOut f k (shapeBytes s) p box ps z m)
@@ -50,12 +50,12 @@ module _ (f : Bool) (k : Kind) (s : Shape) (p : ℕ) (box : BoxXY) (ps : List Po
   size-right : sizeRight k (size s) two ≡ true
   size-right = rw (has-m, flag, words, ← a .of-kind .has-z) (formula-there f (there z) p (length ps) none (there m))
 
-  several-said : countsOf f (shapeBytes s) ≡ gives two → (counts xy zs ms : ℕ) → RoomFor p (length ps) z m counts xy zs ms
-      → severalOf k (size s) (content k s) counts xy zs ms ≡ gives (severalShape f (pos (k .code)) (there m) (bodyAs p box ps z m))
-  several-said c counts xy zs ms room =
-      ShapeLaws.several-said k (size s) (content k s) counts xy zs ms two (bodyAs p box ps z m)
+  several-said : countsOf f (shapeBytes s) ≡ gives two → (counts xs ys zs ms : ℕ) → RoomFor p (length ps) z m counts xs ys zs ms
+      → severalOf k (size s) (content k s) counts xs ys zs ms ≡ gives (severalShape f (pos (k .code)) (there m) (bodyAs p box ps z m))
+  several-said c counts xs ys zs ms room =
+      ShapeLaws.several-said k (size s) (content k s) counts xs ys zs ms two (bodyAs p box ps z m)
       (rw (content-behind k s, flag) c) size-right
-      (rw (content-behind k s, has-m, flag, ← a .of-kind .has-z) (body-said f k (shapeBytes s) p box ps z m a counts xy zs ms room))
+      (rw (content-behind k s, has-m, flag, ← a .of-kind .has-z) (body-said f k (shapeBytes s) p box ps z m a counts xs ys zs ms room))
       ∙ rw (code-back k s t, has-m, flag)
 
 -- the kind's flag, by its form
@@ -64,32 +64,32 @@ flag-of k f t e = form-parts k f (form-flags (pos (k .code)) k (severalForm f) (
 
 pub reads-back : ReadsBack
 reads-back k null t o v small =
-    record { kind-is = kind-back k null t; answer = λ counts xy zs ms room. read-as k null t o small counts xy zs ms ∙ rw o; stores = tt }
+    record { kind-is = kind-back k null t; answer = λ counts xs ys zs ms room. read-as k null t o small counts xs ys zs ms ∙ rw o; stores = tt }
 reads-back k (point xy z m) t o v small =
     record {
       kind-is = kind-back k (point xy z m) t;
-      answer = λ counts xy′ zs ms room. read-as k (point xy z m) t o small counts xy′ zs ms ∙ rw (o .form) (point-said k xy z m t o v);
+      answer = λ counts xs′ ys′ zs ms room. read-as k (point xy z m) t o small counts xs′ ys′ zs ms ∙ rw (o .form) (point-said k xy z m t o v);
       stores = tt;
     }
 reads-back k (multipoint s) t o v small =
     record {
       kind-is = kind-back k (multipoint s) t;
       answer =
-          λ counts xy zs ms room.
-          read-as k (multipoint s) t o small counts xy zs ms
+          λ counts xs ys zs ms room.
+          read-as k (multipoint s) t o small counts xs ys zs ms
           ∙ rw (o .form)
           (several-said false k (multipoint s) 0 (s .box) (s .points) (s .z) (s .m) t (InMultipoint.laid-out k s o v small) (flag-of k false t (o .form)) (λ e. refl)
-          (words-multipoint s) (InMultipoint.counts-said k s o v small) counts xy zs ms room);
+          (words-multipoint s) (InMultipoint.counts-said k s o v small) counts xs ys zs ms room);
       stores = stores-back k (multipoint s) o v small;
     }
 reads-back k (parted s) t o v small =
     record {
       kind-is = kind-back k (parted s) t;
       answer =
-          λ counts xy zs ms room.
-          read-as k (parted s) t o small counts xy zs ms
+          λ counts xs ys zs ms room.
+          read-as k (parted s) t o small counts xs ys zs ms
           ∙ rw (o .form)
           (several-said true k (parted s) (length (s .parts)) (s .box) (flatten (s .parts)) (s .z) (s .m) t (InParts.laid-out k s o v small) (flag-of k true t (o .form))
-          (λ e. absurd (let q : _≡_ {A = ℕ} 0 1 = cc in omega arith)) (words-parted s) (InParts.counts-said k s o v small) counts xy zs ms room);
+          (λ e. absurd (let q : _≡_ {A = ℕ} 0 1 = cc in omega arith)) (words-parted s) (InParts.counts-said k s o v small) counts xs ys zs ms room);
       stores = stores-back k (parted s) o v small;
     }

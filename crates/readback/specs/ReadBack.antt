@@ -14,10 +14,9 @@ use Rattle.format.specs.Encoding.{Box, content, shapeWords}
 use Rattle.format.specs.Kinds.{kindAt}
 use Rattle.format.specs.Said.{gives}
 use Rattle.format.specs.Shapes.{Point, BoxXY, Measure, Shape, null, point, multipoint, parted, there, OfKind, ownKind}
-use Rattle.format.specs.WellFormed.{coordinates}
 use Rattle.multipart.specs.declared.Body.{Body}
 use Rattle.multipart.specs.declared.Range.{Range}
-use Rattle.multipart.specs.Body.{noRange, raised, countsIn, xyIn, zIn, mIn}
+use Rattle.multipart.specs.Body.{noRange, raised, countsIn, xIn, yIn, zIn, mIn}
 use Rattle.rules.specs.Meaning.{TakenKind, FileOf}
 use Rattle.meaning.specs.Consequences.{offsetOf, extentOf}
 use Rattle.record.specs.declared.Wanted.the-variants as Wants
@@ -53,29 +52,33 @@ shapedAs k (point xy z m) = pointShape (pos (k .code)) (record { x = value (xy .
 shapedAs k (multipoint s) = multipointShape (pos (k .code)) (there (s .m)) (bodyAs 0 (s .box) (s .points) (s .z) (s .m))
 shapedAs k (parted s) = partsShape (pos (k .code)) (there (s .m)) (bodyAs (length (s .parts)) (s .box) (flatten (s .parts)) (s .z) (s .m))
 
-abbrev pub xyOf : List Point → List Float
-xyOf ps = map value (coordinates ps)
+abbrev pub xsOf : List Point → List Float
+xsOf ps = map (λ (p : Point). value (p .x)) ps
+
+abbrev pub ysOf : List Point → List Float
+ysOf ps = map (λ (p : Point). value (p .y)) ps
 
 abbrev pub valuesOf : Option Measure → List Float
 valuesOf none = []
 valuesOf (some r) = map value (r .values)
 
 -- the stores have room for p parts and n points
-abbrev pub RoomFor : ℕ → ℕ → Option Measure → Option Measure → ℕ → ℕ → ℕ → ℕ → Type 0
-RoomFor p n z m counts xy zs ms = (p ≤ counts) × (2 * n ≤ xy) × (there z ≡ true → n ≤ zs) × (there m ≡ true → n ≤ ms)
+abbrev pub RoomFor : ℕ → ℕ → Option Measure → Option Measure → ℕ → ℕ → ℕ → ℕ → ℕ → Type 0
+RoomFor p n z m counts xs ys zs ms = (p ≤ counts) × (n ≤ xs) × (n ≤ ys) × (there z ≡ true → n ≤ zs) × (there m ≡ true → n ≤ ms)
 
 -- and for the shape
-abbrev pub Roomy : Shape → ℕ → ℕ → ℕ → ℕ → Type 0
-Roomy null counts xy zs ms = Unit {0}
-Roomy (point p z m) counts xy zs ms = Unit {0}
-Roomy (multipoint s) counts xy zs ms = RoomFor 0 (length (s .points)) (s .z) (s .m) counts xy zs ms
-Roomy (parted s) counts xy zs ms = RoomFor (length (s .parts)) (length (flatten (s .parts))) (s .z) (s .m) counts xy zs ms
+abbrev pub Roomy : Shape → ℕ → ℕ → ℕ → ℕ → ℕ → Type 0
+Roomy null counts xs ys zs ms = Unit {0}
+Roomy (point p z m) counts xs ys zs ms = Unit {0}
+Roomy (multipoint s) counts xs ys zs ms = RoomFor 0 (length (s .points)) (s .z) (s .m) counts xs ys zs ms
+Roomy (parted s) counts xs ys zs ms = RoomFor (length (s .parts)) (length (flatten (s .parts))) (s .z) (s .m) counts xs ys zs ms
 
--- what the stores get of several points, by the content: the count of each part, x and y, z, and m raised
+-- what the stores get of several points, by the content: the count of each part, x, y, z, and m raised
 abbrev pub StoresPoints : Bool → List ℕ → List Point → Option Measure → Option Measure → List ℕ → Type 0
 StoresPoints parts counts ps z m bytes =
     (countsIn parts (drop 4 bytes) ≡ counts)
-    × (xyIn parts (drop 4 bytes) ≡ xyOf ps)
+    × (xIn parts (drop 4 bytes) ≡ xsOf ps)
+    × (yIn parts (drop 4 bytes) ≡ ysOf ps)
     × (zIn parts (there z) (drop 4 bytes) ≡ valuesOf z)
     × (mIn parts (there z) (there m) (drop 4 bytes) ≡ map raised (valuesOf m))
 
@@ -89,7 +92,7 @@ StoresShape (parted s) bytes = StoresPoints true (map length (s .parts)) (flatte
 -- Reading these bytes with this size and no wanted kind finds the kind and gives the shape, where the stores have room for it.
 pub record ReadsShape (k : Kind) (s : Shape) (size : Bytes) (bytes : List ℕ) : Type 0 where
   pub kind-is : kindAt (codeIn bytes) ≡ some k
-  pub answer : (counts xy zs ms : ℕ) → Roomy s counts xy zs ms → recordOf Wants.Any size bytes counts xy zs ms ≡ gives (shapedAs k s)
+  pub answer : (counts xs ys zs ms : ℕ) → Roomy s counts xs ys zs ms → recordOf Wants.Any size bytes counts xs ys zs ms ≡ gives (shapedAs k s)
   pub stores : StoresShape s bytes
 
 -- ---- the encoding of a shape of a taken kind, whose doubles have 64 bits each, as a well-formed one has, and whose content has at most 2,147,483,647 bytes

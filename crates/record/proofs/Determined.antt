@@ -45,13 +45,14 @@ one-record = told-one saidRecord tellRecord back
 one-store : {A : Type 0} (a b : RecordAnswer) (before x y : List A) (values : Bool → List A) → a ≡ b → x ≡ stored (saidRecord a) before values → y ≡ stored (saidRecord b) before values → x ≡ y
 one-store a b before x y values e p q = p ∙ (ap (λ (r : RecordAnswer). stored (saidRecord r) before values) e ∙ sym q)
 
-module _ (wanted : Wanted) (size : Bytes) (s counts : List ℕ) (xy zs ms : List Float) (a b : RecordAnswer) (counts₁ counts₂ : List ℕ) (xy₁ xy₂ zs₁ zs₂ ms₁ ms₂ : List Float) where
-  pub one-result : ReadsRecord wanted size s counts xy zs ms a counts₁ xy₁ zs₁ ms₁ → ReadsRecord wanted size s counts xy zs ms b counts₂ xy₂ zs₂ ms₂ → (a ≡ b) × (counts₁ ≡ counts₂) × (xy₁ ≡ xy₂) × (zs₁ ≡ zs₂) × (ms₁ ≡ ms₂)
+module _ (wanted : Wanted) (size : Bytes) (s counts : List ℕ) (xs ys zs ms : List Float) (a b : RecordAnswer) (counts₁ counts₂ : List ℕ) (xs₁ xs₂ ys₁ ys₂ zs₁ zs₂ ms₁ ms₂ : List Float) where
+  pub one-result : ReadsRecord wanted size s counts xs ys zs ms a counts₁ xs₁ ys₁ zs₁ ms₁ → ReadsRecord wanted size s counts xs ys zs ms b counts₂ xs₂ ys₂ zs₂ ms₂ → (a ≡ b) × (counts₁ ≡ counts₂) × (xs₁ ≡ xs₂) × (ys₁ ≡ ys₂) × (zs₁ ≡ zs₂) × (ms₁ ≡ ms₂)
   one-result p q =
       let e : a ≡ b = one-record a b (p .says ∙ sym (q .says)) in (
         e,
         one-store a b counts _ _ _ e (p .counts-are) (q .counts-are),
-        one-store a b xy _ _ _ e (p .xy-are) (q .xy-are),
+        one-store a b xs _ _ _ e (p .x-are) (q .x-are),
+        one-store a b ys _ _ _ e (p .y-are) (q .y-are),
         one-store a b zs _ _ _ e (p .z-are) (q .z-are),
         one-store a b ms _ _ _ e (p .m-are) (q .m-are),
       )

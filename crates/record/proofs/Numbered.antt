@@ -39,26 +39,26 @@ module _ (k : Kind) (size : Bytes) (s : List ℕ) where
       first-numbered ((isWords size (contentWords onePoint (k .z) (k .m) 0 1), wrongSize 0) ∷ fieldsFrom 8 (doublesOf k) 4 s short) (gives _)
       (omega arith, fields-numbered Shaped 8 (doublesOf k) 4 s) tt
 
-  module _ (counts xy zs ms : ℕ) where
-    several-numbered : Numbered (severalOf k size s counts xy zs ms)
+  module _ (counts xs ys zs ms : ℕ) where
+    several-numbered : Numbered (severalOf k size s counts xs ys zs ms)
     unfolding severalOf
     several-numbered =
         let b = drop 4 s in
         then-numbered (moved (countsOf (k .parts) b)) _ (moved-numbered (countsOf (k .parts) b) (counts-numbered (k .parts) b))
         (λ two.
-        let body = bodyOf (k .parts) (k .z) (hasM k size two) b counts xy zs ms in
+        let body = bodyOf (k .parts) (k .z) (hasM k size two) b counts xs ys zs ms in
         cond-numbered (sizeRight k size two) _ (wrongSize 0)
-        (then-numbered (moved body) _ (moved-numbered body (body-numbered (k .parts) (k .z) (hasM k size two) b counts xy zs ms)) (λ read. tt))
+        (then-numbered (moved body) _ (moved-numbered body (body-numbered (k .parts) (k .z) (hasM k size two) b counts xs ys zs ms)) (λ read. tt))
         (omega arith))
 
-    form-numbered : (form : Option Form) → Numbered (byForm form k size s counts xy zs ms)
+    form-numbered : (form : Option Form) → Numbered (byForm form k size s counts xs ys zs ms)
     form-numbered none = omega arith
     form-numbered (some nothing) = tt
     form-numbered (some onePoint) = point-numbered
     form-numbered (some manyPoints) = several-numbered
     form-numbered (some parts) = several-numbered
 
-pub record-numbered : (wanted : Wanted) (size : Bytes) (s : List ℕ) (counts xy zs ms : ℕ) → Numbered (recordOf wanted size s counts xy zs ms)
+pub record-numbered : (wanted : Wanted) (size : Bytes) (s : List ℕ) (counts xs ys zs ms : ℕ) → Numbered (recordOf wanted size s counts xs ys zs ms)
 unfolding recordOf
-record-numbered wanted size s counts xy zs ms =
-    first-numbered (frontTests wanted size s) _ (front-numbered wanted size s) (form-numbered (kindIn s) size s counts xy zs ms (formAt (codeIn s)))
+record-numbered wanted size s counts xs ys zs ms =
+    first-numbered (frontTests wanted size s) _ (front-numbered wanted size s) (form-numbered (kindIn s) size s counts xs ys zs ms (formAt (codeIn s)))

@@ -67,8 +67,8 @@ module _ (k : Kind) (size : Bytes) (s : List ℕ) (h : 4 ≤ length s) where
       test-placed w s (isWords size (contentWords onePoint (k .z) (k .m) 0 1)) _ _ (size-placed w s 0 zero-le)
       (λ e. fields-placed w s 8 (doublesOf k) 4 (lit< tt) h (λ p i j. rw (le-leb 4 p i)) _ (λ l. tt))
 
-  module _ (counts xy zs ms : ℕ) where
-    several-placed : Placed (contentWidth (some (severalForm (k .parts))) s) s (severalOf k size s counts xy zs ms)
+  module _ (counts xs ys zs ms : ℕ) where
+    several-placed : Placed (contentWidth (some (severalForm (k .parts))) s) s (severalOf k size s counts xs ys zs ms)
     unfolding severalOf
     several-placed =
         let w = contentWidth (some (severalForm (k .parts))) s in
@@ -76,15 +76,15 @@ module _ (k : Kind) (size : Bytes) (s : List ℕ) (h : 4 ≤ length s) where
         let two = countsOf (k .parts) b in
         then-placed w s (moved two) _ (moved-placed (k .parts) s h two (counts-placed (k .parts) b))
         (λ two.
-        let body = bodyOf (k .parts) (k .z) (hasM k size two) b counts xy zs ms in
+        let body = bodyOf (k .parts) (k .z) (hasM k size two) b counts xs ys zs ms in
         test-placed w s (sizeRight k size two) _ _ (size-placed w s 0 zero-le)
-        (λ e. then-placed w s (moved body) _ (moved-placed (k .parts) s h body (body-placed (k .parts) (k .z) (hasM k size two) b counts xy zs ms)) (λ read. tt)))
+        (λ e. then-placed w s (moved body) _ (moved-placed (k .parts) s h body (body-placed (k .parts) (k .z) (hasM k size two) b counts xs ys zs ms)) (λ read. tt)))
 
     -- in the form that the kind's parts say
-    several-form-placed : (f : Bool) → k .parts ≡ f → Placed (contentWidth (some (severalForm f)) s) s (severalOf k size s counts xy zs ms)
-    several-form-placed f e = subst (λ (x : Bool). Placed (contentWidth (some (severalForm x)) s) s (severalOf k size s counts xy zs ms)) e several-placed
+    several-form-placed : (f : Bool) → k .parts ≡ f → Placed (contentWidth (some (severalForm f)) s) s (severalOf k size s counts xs ys zs ms)
+    several-form-placed f e = subst (λ (x : Bool). Placed (contentWidth (some (severalForm x)) s) s (severalOf k size s counts xs ys zs ms)) e several-placed
 
-    form-placed : (form : Option Form) → ((f : Form) → form ≡ some f → Flags k f) → Placed (contentWidth form s) s (byForm form k size s counts xy zs ms)
+    form-placed : (form : Option Form) → ((f : Form) → form ≡ some f → Flags k f) → Placed (contentWidth form s) s (byForm form k size s counts xs ys zs ms)
     form-placed none flags = elsewhere (contentWidth none s) s 9 _ refl
     form-placed (some nothing) flags = tt
     form-placed (some onePoint) flags = point-placed
@@ -121,11 +121,11 @@ module _ (form : Option Form) (wanted : Wanted) (size : Bytes) (s : List ℕ) (a
       (mismatch-placed w s (first last a) wanted (codeIn s)
       (test-placed w s (isTaken (codeIn s)) a _ (elsewhere w s 9 _ refl) (λ k. p h))))))
 
-pub record-placed : (wanted : Wanted) (size : Bytes) (s : List ℕ) (counts xy zs ms : ℕ) → Placed (contentWidth (formAt (codeIn s)) s) s (recordOf wanted size s counts xy zs ms)
+pub record-placed : (wanted : Wanted) (size : Bytes) (s : List ℕ) (counts xs ys zs ms : ℕ) → Placed (contentWidth (formAt (codeIn s)) s) s (recordOf wanted size s counts xs ys zs ms)
 unfolding recordOf
-record-placed wanted size s counts xy zs ms =
+record-placed wanted size s counts xs ys zs ms =
     let form = formAt (codeIn s) in
-    let a = byForm form (kindIn s) size s counts xy zs ms in
+    let a = byForm form (kindIn s) size s counts xs ys zs ms in
     rw (first-append (wantedTests wanted) (foundTests wanted size s) a)
     (wanted-placed (contentWidth form s) s (first (foundTests wanted size s) a) wanted
-    (found-placed form wanted size s a (λ h. form-placed (kindIn s) size s h counts xy zs ms form (code-flags (codeIn s)))))
+    (found-placed form wanted size s a (λ h. form-placed (kindIn s) size s h counts xs ys zs ms form (code-flags (codeIn s)))))

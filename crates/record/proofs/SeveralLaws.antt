@@ -15,7 +15,7 @@ use Rattle.multipart.specs.declared.BodyAnswer.{BodyAnswer}
 use Rattle.multipart.specs.declared.BodyAnswer.the-variants as BodyIs
 use Rattle.multipart.specs.declared.CountsAnswer.the-variants as CountsIs
 use Rattle.multipart.specs.Answers.{Two, saidCounts, countsOf, saidBody, ReadsBody}
-use Rattle.multipart.specs.Body.{countsIn, xyIn, zIn, mIn}
+use Rattle.multipart.specs.Body.{countsIn, xIn, yIn, zIn, mIn}
 use Rattle.record.specs.declared.RecordAnswer.{RecordAnswer}
 use Rattle.record.specs.declared.RecordAnswer.the-variants as Is
 use Rattle.record.specs.Reading.{Shaped, nullShape, pointShape, multipointShape, partsShape, severalShape, moved, andThen, hasM, sizeRight, saidRecord, stored}
@@ -40,7 +40,7 @@ whole-stored : {A : Type 0} (parts : Bool) (code : ℤ) (m : Bool) (body : Body)
 whole-stored true code m body store values = refl
 whole-stored false code m body store values = refl
 
-module _ (code : ℤ) (parts z m : Bool) (b counts : List ℕ) (xy zs ms : List Float) (counts′ : List ℕ) (xy′ zs′ ms′ : List Float) where
+module _ (code : ℤ) (parts z m : Bool) (b counts : List ℕ) (xs ys zs ms : List Float) (counts′ : List ℕ) (xs′ ys′ zs′ ms′ : List Float) where
   carried : (r : BodyAnswer) → saidRecord (after parts code m r) ≡ andThen (moved (saidBody r)) (λ body. gives (severalShape parts code m body))
   carried (BodyIs.Whole body) = whole-said parts code m body
   carried (BodyIs.Short at present) = refl
@@ -48,30 +48,31 @@ module _ (code : ℤ) (parts z m : Bool) (b counts : List ℕ) (xy zs ms : List 
   carried (BodyIs.Room p n) = refl
 
   abbrev From : RecordAnswer → Type 0
-  From r = Reads (restFrom code parts z m b (length counts) (length xy) (length zs) (length ms)) parts z b counts xy zs ms r counts′ xy′ zs′ ms′
+  From r = Reads (restFrom code parts z m b (length counts) (length xs) (length ys) (length zs) (length ms)) parts z b counts xs ys zs ms r counts′ xs′ ys′ zs′ ms′
 
-  rest-says : (r : BodyAnswer) → ReadsBody parts z m b counts xy zs ms r counts′ xy′ zs′ ms′ → saidRecord (after parts code m r) ≡ restFrom code parts z m b (length counts) (length xy) (length zs) (length ms)
+  rest-says : (r : BodyAnswer) → ReadsBody parts z m b counts xs ys zs ms r counts′ xs′ ys′ zs′ ms′ → saidRecord (after parts code m r) ≡ restFrom code parts z m b (length counts) (length xs) (length ys) (length zs) (length ms)
   unfolding restFrom
   rest-says r h = carried r ∙ ap (λ (x : Said Body). andThen (moved x) (λ body. gives (severalShape parts code m body))) (h .says)
 
-  reads : (r : BodyAnswer) → ReadsBody parts z m b counts xy zs ms r counts′ xy′ zs′ ms′ → From (after parts code m r)
+  reads : (r : BodyAnswer) → ReadsBody parts z m b counts xs ys zs ms r counts′ xs′ ys′ zs′ ms′ → From (after parts code m r)
   reads (BodyIs.Whole body) h =
       record {
         says = rest-says (BodyIs.Whole body) h;
         counts-are = h .counts-are ∙ whole-stored parts code m body counts (λ m. countsIn parts b);
-        xy-are = h .xy-are ∙ whole-stored parts code m body xy (λ m. xyIn parts b);
+        x-are = h .x-are ∙ whole-stored parts code m body xs (λ m. xIn parts b);
+        y-are = h .y-are ∙ whole-stored parts code m body ys (λ m. yIn parts b);
         z-are = h .z-are ∙ whole-stored parts code m body zs (λ m. zIn parts z b);
         m-are = h .m-are ∙ whole-stored parts code m body ms (λ m. mIn parts z m b);
       }
-  reads (BodyIs.Short at present) h = record { says = rest-says (BodyIs.Short at present) h; counts-are = h .counts-are; xy-are = h .xy-are; z-are = h .z-are; m-are = h .m-are }
-  reads (BodyIs.Size at) h = record { says = rest-says (BodyIs.Size at) h; counts-are = h .counts-are; xy-are = h .xy-are; z-are = h .z-are; m-are = h .m-are }
-  reads (BodyIs.Room p n) h = record { says = rest-says (BodyIs.Room p n) h; counts-are = h .counts-are; xy-are = h .xy-are; z-are = h .z-are; m-are = h .m-are }
+  reads (BodyIs.Short at present) h = record { says = rest-says (BodyIs.Short at present) h; counts-are = h .counts-are; x-are = h .x-are; y-are = h .y-are; z-are = h .z-are; m-are = h .m-are }
+  reads (BodyIs.Size at) h = record { says = rest-says (BodyIs.Size at) h; counts-are = h .counts-are; x-are = h .x-are; y-are = h .y-are; z-are = h .z-are; m-are = h .m-are }
+  reads (BodyIs.Room p n) h = record { says = rest-says (BodyIs.Room p n) h; counts-are = h .counts-are; x-are = h .x-are; y-are = h .y-are; z-are = h .z-are; m-are = h .m-are }
 
   -- with the flag that the code has tested
-  pub rest-reads : (r r′ : BodyAnswer) (f : Bool) → r ≡ r′ → parts ≡ f → ReadsBody parts z m b counts xy zs ms r counts′ xy′ zs′ ms′ → From (after f code m r′)
+  pub rest-reads : (r r′ : BodyAnswer) (f : Bool) → r ≡ r′ → parts ≡ f → ReadsBody parts z m b counts xs ys zs ms r counts′ xs′ ys′ zs′ ms′ → From (after f code m r′)
   rest-reads r r′ f e g h =
       subst (λ (x : Bool). From (after x code m r′)) g
-      (reads r′ (subst (λ (x : BodyAnswer). ReadsBody parts z m b counts xy zs ms x counts′ xy′ zs′ ms′) e h))
+      (reads r′ (subst (λ (x : BodyAnswer). ReadsBody parts z m b counts xs ys zs ms x counts′ xs′ ys′ zs′ ms′) e h))
 
 -- ---- an answer that stores nothing
 
@@ -82,24 +83,25 @@ stored-none (gives (multipointShape code m body)) store values e = cc
 stored-none (gives (partsShape code m body)) store values e = cc
 stored-none (refuses n vs) store values e = refl
 
-pub answered : (said : Said Shaped) (parts z : Bool) (b counts : List ℕ) (xy zs ms : List Float) (r : RecordAnswer) → Answers said r → Reads said parts z b counts xy zs ms r counts xy zs ms
-answered said parts z b counts xy zs ms r h =
+pub answered : (said : Said Shaped) (parts z : Bool) (b counts : List ℕ) (xs ys zs ms : List Float) (r : RecordAnswer) → Answers said r → Reads said parts z b counts xs ys zs ms r counts xs ys zs ms
+answered said parts z b counts xs ys zs ms r h =
     record {
       says = h .says;
       counts-are = stored-none (saidRecord r) counts _ (h .none);
-      xy-are = stored-none (saidRecord r) xy _ (h .none);
+      x-are = stored-none (saidRecord r) xs _ (h .none);
+      y-are = stored-none (saidRecord r) ys _ (h .none);
       z-are = stored-none (saidRecord r) zs _ (h .none);
       m-are = stored-none (saidRecord r) ms _ (h .none);
     }
 
 -- ---- a body whose size is not judged yet
 
-module _ (code : ℤ) (k : Kind) (size : Bytes) (b : List ℕ) (counts xy zs ms : ℕ) where
+module _ (code : ℤ) (k : Kind) (size : Bytes) (b : List ℕ) (counts xs ys zs ms : ℕ) where
   abbrev next : Two → Said Shaped
-  next t = cond (sizeRight k size t) (restFrom code (k .parts) (k .z) (hasM k size t) b counts xy zs ms) (wrongSize 0)
+  next t = cond (sizeRight k size t) (restFrom code (k .parts) (k .z) (hasM k size t) b counts xs ys zs ms) (wrongSize 0)
 
   abbrev all : Said Shaped
-  all = severalFrom code k size b counts xy zs ms
+  all = severalFrom code k size b counts xs ys zs ms
 
   from-counts : (r : Said Two) → r ≡ countsOf (k .parts) b → andThen (moved r) next ≡ all
   unfolding severalFrom
@@ -113,20 +115,21 @@ module _ (code : ℤ) (k : Kind) (size : Bytes) (b : List ℕ) (counts xy zs ms 
 
   module _ (p n : ℕ) (e : saidCounts (CountsIs.Are p n) ≡ countsOf (k .parts) b) where
     pub size-wrong : sizeRight k size (two p n) ≡ false → Answers all (Is.Size 0)
-    size-wrong q = record { says = ap (λ (x : Bool). cond x (restFrom code (k .parts) (k .z) (hasM k size (two p n)) b counts xy zs ms) (wrongSize 0)) (sym q) ∙ from-counts _ e; none = refl }
+    size-wrong q = record { says = ap (λ (x : Bool). cond x (restFrom code (k .parts) (k .z) (hasM k size (two p n)) b counts xs ys zs ms) (wrongSize 0)) (sym q) ∙ from-counts _ e; none = refl }
 
-    pub size-settles : (m : Bool) → sizeRight k size (two p n) ≡ true → hasM k size (two p n) ≡ m → restFrom code (k .parts) (k .z) m b counts xy zs ms ≡ all
+    pub size-settles : (m : Bool) → sizeRight k size (two p n) ≡ true → hasM k size (two p n) ≡ m → restFrom code (k .parts) (k .z) m b counts xs ys zs ms ≡ all
     size-settles m q h =
-        ap (λ (x : Bool). restFrom code (k .parts) (k .z) x b counts xy zs ms) (sym h)
-        ∙ (ap (λ (x : Bool). cond x (restFrom code (k .parts) (k .z) (hasM k size (two p n)) b counts xy zs ms) (wrongSize 0)) (sym q) ∙ from-counts _ e)
+        ap (λ (x : Bool). restFrom code (k .parts) (k .z) x b counts xs ys zs ms) (sym h)
+        ∙ (ap (λ (x : Bool). cond x (restFrom code (k .parts) (k .z) (hasM k size (two p n)) b counts xs ys zs ms) (wrongSize 0)) (sym q) ∙ from-counts _ e)
 
 -- what is read is read as a whole
-pub reads-as : (code code′ : ℤ) (m : Bool) (said : Said Shaped) (parts z : Bool) (b counts : List ℕ) (xy zs ms : List Float) (r : RecordAnswer) (counts′ : List ℕ) (xy′ zs′ ms′ : List Float) → code′ ≡ code → restFrom code parts z m b (length counts) (length xy) (length zs) (length ms) ≡ said → Reads (restFrom code′ parts z m b (length counts) (length xy) (length zs) (length ms)) parts z b counts xy zs ms r counts′ xy′ zs′ ms′ → Reads said parts z b counts xy zs ms r counts′ xy′ zs′ ms′
-reads-as code code′ m said parts z b counts xy zs ms r counts′ xy′ zs′ ms′ f e h =
+pub reads-as : (code code′ : ℤ) (m : Bool) (said : Said Shaped) (parts z : Bool) (b counts : List ℕ) (xs ys zs ms : List Float) (r : RecordAnswer) (counts′ : List ℕ) (xs′ ys′ zs′ ms′ : List Float) → code′ ≡ code → restFrom code parts z m b (length counts) (length xs) (length ys) (length zs) (length ms) ≡ said → Reads (restFrom code′ parts z m b (length counts) (length xs) (length ys) (length zs) (length ms)) parts z b counts xs ys zs ms r counts′ xs′ ys′ zs′ ms′ → Reads said parts z b counts xs ys zs ms r counts′ xs′ ys′ zs′ ms′
+reads-as code code′ m said parts z b counts xs ys zs ms r counts′ xs′ ys′ zs′ ms′ f e h =
     record {
-      says = h .says ∙ (ap (λ (x : ℤ). restFrom x parts z m b (length counts) (length xy) (length zs) (length ms)) f ∙ e);
+      says = h .says ∙ (ap (λ (x : ℤ). restFrom x parts z m b (length counts) (length xs) (length ys) (length zs) (length ms)) f ∙ e);
       counts-are = h .counts-are;
-      xy-are = h .xy-are;
+      x-are = h .x-are;
+      y-are = h .y-are;
       z-are = h .z-are;
       m-are = h .m-are;
     }

@@ -20,7 +20,7 @@ use Rattle.format.specs.Shapes.{there}
 use Rattle.format.specs.Units.{sameInt, inI32}
 use Rattle.multipart.specs.declared.Body.{Body}
 use Rattle.multipart.specs.Answers.{Two, countsOf}
-use Rattle.multipart.specs.Body.{bodyWidth, bodyOf, countsIn, xyIn, zIn, mIn}
+use Rattle.multipart.specs.Body.{bodyWidth, bodyOf, countsIn, xIn, yIn, zIn, mIn}
 use Rattle.record.specs.declared.Wanted.{Wanted}
 use Rattle.record.specs.declared.Wanted.the-variants as Wants
 use Rattle.record.specs.declared.Point.{Point}
@@ -120,26 +120,26 @@ severalShape true code m body = partsShape code m body
 severalShape false code m body = multipointShape code m body
 
 -- box and counts, the signs; then the size must be twice a formula of the table, which settles whether m is read; then the rest
-unfoldable pub severalOf : Kind → Bytes → List ℕ → ℕ → ℕ → ℕ → ℕ → Said Shaped
-severalOf k size s counts xy zs ms =
+unfoldable pub severalOf : Kind → Bytes → List ℕ → ℕ → ℕ → ℕ → ℕ → ℕ → Said Shaped
+severalOf k size s counts xs ys zs ms =
     andThen (moved (countsOf (k .parts) (drop 4 s)))
     (λ two.
     cond (sizeRight k size two)
-    (andThen (moved (bodyOf (k .parts) (k .z) (hasM k size two) (drop 4 s) counts xy zs ms))
+    (andThen (moved (bodyOf (k .parts) (k .z) (hasM k size two) (drop 4 s) counts xs ys zs ms))
     (λ body. gives (severalShape (k .parts) (codeIn s) (hasM k size two) body)))
     (wrongSize 0))
 
-abbrev pub byForm : Option Form → Kind → Bytes → List ℕ → ℕ → ℕ → ℕ → ℕ → Said Shaped
-byForm none k size s counts xy zs ms = notTaken (codeIn s)
-byForm (some nothing) k size s counts xy zs ms = gives nullShape
-byForm (some onePoint) k size s counts xy zs ms = pointOf k size s
-byForm (some manyPoints) k size s counts xy zs ms = severalOf k size s counts xy zs ms
-byForm (some parts) k size s counts xy zs ms = severalOf k size s counts xy zs ms
+abbrev pub byForm : Option Form → Kind → Bytes → List ℕ → ℕ → ℕ → ℕ → ℕ → ℕ → Said Shaped
+byForm none k size s counts xs ys zs ms = notTaken (codeIn s)
+byForm (some nothing) k size s counts xs ys zs ms = gives nullShape
+byForm (some onePoint) k size s counts xs ys zs ms = pointOf k size s
+byForm (some manyPoints) k size s counts xs ys zs ms = severalOf k size s counts xs ys zs ms
+byForm (some parts) k size s counts xs ys zs ms = severalOf k size s counts xs ys zs ms
 
 -- what reading a record says, with stores of these lengths
-unfoldable pub recordOf : Wanted → Bytes → List ℕ → ℕ → ℕ → ℕ → ℕ → Said Shaped
-recordOf wanted size s counts xy zs ms =
-    first (frontTests wanted size s) (byForm (formAt (codeIn s)) (kindIn s) size s counts xy zs ms)
+unfoldable pub recordOf : Wanted → Bytes → List ℕ → ℕ → ℕ → ℕ → ℕ → ℕ → Said Shaped
+recordOf wanted size s counts xs ys zs ms =
+    first (frontTests wanted size s) (byForm (formAt (codeIn s)) (kindIn s) size s counts xs ys zs ms)
 
 -- how wide the field at a place of a content of a form is: the kind's has four bytes; behind it the body's fields, or a point's, of eight
 abbrev pub widthBy : Option Form → List ℕ → ℕ → ℕ
@@ -174,9 +174,10 @@ stored (gives (multipointShape code m body)) store values = sets store 0 (values
 stored (gives (partsShape code m body)) store values = sets store 0 (values m)
 stored (refuses n vs) store values = store
 
-pub record ReadsRecord (wanted : Wanted) (size : Bytes) (s counts : List ℕ) (xy zs ms : List Float) (r : RecordAnswer) (counts′ : List ℕ) (xy′ zs′ ms′ : List Float) : Type 0 where
-  pub says : saidRecord r ≡ recordOf wanted size s (length counts) (length xy) (length zs) (length ms)
+pub record ReadsRecord (wanted : Wanted) (size : Bytes) (s counts : List ℕ) (xs ys zs ms : List Float) (r : RecordAnswer) (counts′ : List ℕ) (xs′ ys′ zs′ ms′ : List Float) : Type 0 where
+  pub says : saidRecord r ≡ recordOf wanted size s (length counts) (length xs) (length ys) (length zs) (length ms)
   pub counts-are : counts′ ≡ stored (saidRecord r) counts (λ m. countsIn (kindIn s .parts) (drop 4 s))
-  pub xy-are : xy′ ≡ stored (saidRecord r) xy (λ m. xyIn (kindIn s .parts) (drop 4 s))
+  pub x-are : xs′ ≡ stored (saidRecord r) xs (λ m. xIn (kindIn s .parts) (drop 4 s))
+  pub y-are : ys′ ≡ stored (saidRecord r) ys (λ m. yIn (kindIn s .parts) (drop 4 s))
   pub z-are : zs′ ≡ stored (saidRecord r) zs (λ m. zIn (kindIn s .parts) (kindIn s .z) (drop 4 s))
   pub m-are : ms′ ≡ stored (saidRecord r) ms (λ m. mIn (kindIn s .parts) (kindIn s .z) m (drop 4 s))

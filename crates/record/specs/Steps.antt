@@ -17,7 +17,7 @@ use Rattle.format.specs.Order.{first}
 use Rattle.format.specs.Said.{Said, gives, refuses, wrongSize}
 use Rattle.format.specs.Units.{inI32}
 use Rattle.multipart.specs.Answers.{Two, countsOf}
-use Rattle.multipart.specs.Body.{bodyOf, countsIn, xyIn, zIn, mIn}
+use Rattle.multipart.specs.Body.{bodyOf, countsIn, xIn, yIn, zIn, mIn}
 use Rattle.record.specs.declared.RecordAnswer.{RecordAnswer}
 use Rattle.record.specs.declared.front.Judged.{Judged}
 use Rattle.record.specs.declared.front.Judged.the-variants as JudgedIs
@@ -88,19 +88,20 @@ pub record Answers (said : Said Shaped) (r : RecordAnswer) : Type 0 where
   pub none : storesNone (saidRecord r) ≡ true
 
 -- an answer that says this, with what the stores then hold of a body
-pub record Reads (said : Said Shaped) (parts z : Bool) (b counts : List ℕ) (xy zs ms : List Float) (r : RecordAnswer) (counts′ : List ℕ) (xy′ zs′ ms′ : List Float) : Type 0 where
+pub record Reads (said : Said Shaped) (parts z : Bool) (b counts : List ℕ) (xs ys zs ms : List Float) (r : RecordAnswer) (counts′ : List ℕ) (xs′ ys′ zs′ ms′ : List Float) : Type 0 where
   pub says : saidRecord r ≡ said
   pub counts-are : counts′ ≡ stored (saidRecord r) counts (λ m. countsIn parts b)
-  pub xy-are : xy′ ≡ stored (saidRecord r) xy (λ m. xyIn parts b)
+  pub x-are : xs′ ≡ stored (saidRecord r) xs (λ m. xIn parts b)
+  pub y-are : ys′ ≡ stored (saidRecord r) ys (λ m. yIn parts b)
   pub z-are : zs′ ≡ stored (saidRecord r) zs (λ m. zIn parts z b)
   pub m-are : ms′ ≡ stored (saidRecord r) ms (λ m. mIn parts z m b)
 
 -- a body whose size is judged
-unfoldable pub restFrom : ℤ → Bool → Bool → Bool → List ℕ → ℕ → ℕ → ℕ → ℕ → Said Shaped
-restFrom code parts z m b counts xy zs ms = andThen (moved (bodyOf parts z m b counts xy zs ms)) (λ body. gives (severalShape parts code m body))
+unfoldable pub restFrom : ℤ → Bool → Bool → Bool → List ℕ → ℕ → ℕ → ℕ → ℕ → ℕ → Said Shaped
+restFrom code parts z m b counts xs ys zs ms = andThen (moved (bodyOf parts z m b counts xs ys zs ms)) (λ body. gives (severalShape parts code m body))
 
 -- a body whose size is not
-unfoldable pub severalFrom : ℤ → Kind → Bytes → List ℕ → ℕ → ℕ → ℕ → ℕ → Said Shaped
-severalFrom code k size b counts xy zs ms =
+unfoldable pub severalFrom : ℤ → Kind → Bytes → List ℕ → ℕ → ℕ → ℕ → ℕ → ℕ → Said Shaped
+severalFrom code k size b counts xs ys zs ms =
     andThen (moved (countsOf (k .parts) b))
-    (λ t. cond (sizeRight k size t) (restFrom code (k .parts) (k .z) (hasM k size t) b counts xy zs ms) (wrongSize 0))
+    (λ t. cond (sizeRight k size t) (restFrom code (k .parts) (k .z) (hasM k size t) b counts xs ys zs ms) (wrongSize 0))

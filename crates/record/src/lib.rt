@@ -50,19 +50,20 @@ fn read_shape(
     k: Kind,
     l: Lengths,
     counts: &mut [u32],
-    xy: &mut [f64],
+    xs: &mut [f64],
+    ys: &mut [f64],
     zs: &mut [f64],
     ms: &mut [f64],
 ) -> RecordAnswer
     requires { ⌜ Takes size (now s) k l ⌝ }
-    ensures { λ r. ⌜ Reads (byForm (formOf k) k size (now (s .entry)) (length (now (counts .entry))) (length (now (xy .entry))) (length (now (zs .entry))) (length (now (ms .entry)))) (k .parts) (k .z) (drop 4 (now (s .entry))) (now (counts .entry)) (now (xy .entry)) (now (zs .entry)) (now (ms .entry)) r (now (counts .exit)) (now (xy .exit)) (now (zs .exit)) (now (ms .exit)) ⌝ }
+    ensures { λ r. ⌜ Reads (byForm (formOf k) k size (now (s .entry)) (length (now (counts .entry))) (length (now (xs .entry))) (length (now (ys .entry))) (length (now (zs .entry))) (length (now (ms .entry)))) (k .parts) (k .z) (drop 4 (now (s .entry))) (now (counts .entry)) (now (xs .entry)) (now (ys .entry)) (now (zs .entry)) (now (ms .entry)) r (now (counts .exit)) (now (xs .exit)) (now (ys .exit)) (now (zs .exit)) (now (ms .exit)) ⌝ }
 {
     if k.code == 0 {
         return RecordAnswer::Null;
     }
     let code = fields::le_i32_at(s, 0);
     if format::lengths::has_several(k) {
-        several::read_several(code, k, l, size, &s[4..], counts, xy, zs, ms)
+        several::read_several(code, k, l, size, &s[4..], counts, xs, ys, zs, ms)
     } else {
         points::read_point(s, code, k, l, size)
     }
@@ -74,14 +75,15 @@ pub fn read_record(
     size: Bytes,
     wanted: Wanted,
     counts: &mut [u32],
-    xy: &mut [f64],
+    xs: &mut [f64],
+    ys: &mut [f64],
     zs: &mut [f64],
     ms: &mut [f64],
 ) -> RecordAnswer
-    ensures { λ r. ⌜ ReadsRecord wanted size (now (s .entry)) (now (counts .entry)) (now (xy .entry)) (now (zs .entry)) (now (ms .entry)) r (now (counts .exit)) (now (xy .exit)) (now (zs .exit)) (now (ms .exit)) ⌝ }
+    ensures { λ r. ⌜ ReadsRecord wanted size (now (s .entry)) (now (counts .entry)) (now (xs .entry)) (now (ys .entry)) (now (zs .entry)) (now (ms .entry)) r (now (counts .exit)) (now (xs .exit)) (now (ys .exit)) (now (zs .exit)) (now (ms .exit)) ⌝ }
 {
     match front::judge_front(s, size, wanted) {
         Front::Refused(r) => r,
-        Front::On(k, l) => read_shape(s, size, k, l, counts, xy, zs, ms),
+        Front::On(k, l) => read_shape(s, size, k, l, counts, xs, ys, zs, ms),
     }
 }

@@ -21,13 +21,14 @@ fn read_rest(
     m: bool,
     b: &[u8],
     counts: &mut [u32],
-    xy: &mut [f64],
+    xs: &mut [f64],
+    ys: &mut [f64],
     zs: &mut [f64],
     ms: &mut [f64],
 ) -> RecordAnswer
-    ensures { λ r. ⌜ Reads (restFrom code parts z m (now (b .entry)) (length (now (counts .entry))) (length (now (xy .entry))) (length (now (zs .entry))) (length (now (ms .entry)))) parts z (now (b .entry)) (now (counts .entry)) (now (xy .entry)) (now (zs .entry)) (now (ms .entry)) r (now (counts .exit)) (now (xy .exit)) (now (zs .exit)) (now (ms .exit)) ⌝ }
+    ensures { λ r. ⌜ Reads (restFrom code parts z m (now (b .entry)) (length (now (counts .entry))) (length (now (xs .entry))) (length (now (ys .entry))) (length (now (zs .entry))) (length (now (ms .entry)))) parts z (now (b .entry)) (now (counts .entry)) (now (xs .entry)) (now (ys .entry)) (now (zs .entry)) (now (ms .entry)) r (now (counts .exit)) (now (xs .exit)) (now (ys .exit)) (now (zs .exit)) (now (ms .exit)) ⌝ }
 {
-    match multipart::read_body(b, parts, z, m, counts, xy, zs, ms) {
+    match multipart::read_body(b, parts, z, m, counts, xs, ys, zs, ms) {
         BodyAnswer::Short(at, present) => RecordAnswer::Short(4 + at, present),
         BodyAnswer::Size(at) => RecordAnswer::Size(4 + at),
         BodyAnswer::Room(p, n) => RecordAnswer::Room(p, n),
@@ -48,19 +49,20 @@ pub(crate) fn read_several(
     size: Bytes,
     b: &[u8],
     counts: &mut [u32],
-    xy: &mut [f64],
+    xs: &mut [f64],
+    ys: &mut [f64],
     zs: &mut [f64],
     ms: &mut [f64],
 ) -> RecordAnswer
     requires { ⌜ (Held size) × (l ≡ lengthsFor k (severalForm (k .parts))) ⌝ }
-    ensures { λ r. ⌜ Reads (severalFrom code k size (now (b .entry)) (length (now (counts .entry))) (length (now (xy .entry))) (length (now (zs .entry))) (length (now (ms .entry)))) (k .parts) (k .z) (now (b .entry)) (now (counts .entry)) (now (xy .entry)) (now (zs .entry)) (now (ms .entry)) r (now (counts .exit)) (now (xy .exit)) (now (zs .exit)) (now (ms .exit)) ⌝ }
+    ensures { λ r. ⌜ Reads (severalFrom code k size (now (b .entry)) (length (now (counts .entry))) (length (now (xs .entry))) (length (now (ys .entry))) (length (now (zs .entry))) (length (now (ms .entry)))) (k .parts) (k .z) (now (b .entry)) (now (counts .entry)) (now (xs .entry)) (now (ys .entry)) (now (zs .entry)) (now (ms .entry)) r (now (counts .exit)) (now (xs .exit)) (now (ys .exit)) (now (zs .exit)) (now (ms .exit)) ⌝ }
 {
     match multipart::read_counts(b, k.parts) {
         CountsAnswer::Short(at, present) => RecordAnswer::Short(4 + at, present),
         CountsAnswer::Size(at) => RecordAnswer::Size(4 + at),
         CountsAnswer::Are(p, n) => match sizes::judge_size(size, k, l, p, n) {
-            Sized::Without => read_rest(code, k.parts, k.z, false, b, counts, xy, zs, ms),
-            Sized::With => read_rest(code, k.parts, k.z, true, b, counts, xy, zs, ms),
+            Sized::Without => read_rest(code, k.parts, k.z, false, b, counts, xs, ys, zs, ms),
+            Sized::With => read_rest(code, k.parts, k.z, true, b, counts, xs, ys, zs, ms),
             Sized::Neither => RecordAnswer::Size(0),
         },
     }

@@ -23,16 +23,17 @@ pub fn same(
     s: &[u8],
     e: &[u8],
     counts: &mut [u32],
-    xy: &mut [f64],
+    xs: &mut [f64],
+    ys: &mut [f64],
     zs: &mut [f64],
     ms: &mut [f64],
     out: &mut [u8],
 ) -> bool {
     match part {
-        6 => bodies::body_read(s, e, flags, counts, xy, zs, ms),
-        7 => runs::ring(s, e, xy),
-        8 => files::body_written(s, e, flags, counts, xy, out),
-        9 => files::files_written(s, e, counts, xy, out),
+        6 => bodies::body_read(s, e, flags, counts, xs, ys, zs, ms),
+        7 => runs::ring(s, e, xs, ys),
+        8 => files::body_written(s, e, flags, counts, xs, ys, zs, ms, out),
+        9 => files::files_written(s, e, counts, xs, ys, zs, ms, out),
         _ => plain(part, s, e),
     }
 }

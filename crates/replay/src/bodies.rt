@@ -29,7 +29,8 @@ fn head(e: &[u8], b: Body) -> Seen {
 fn left(
     counts: &[u32],
     p: usize,
-    xy: &[f64],
+    xs: &[f64],
+    ys: &[f64],
     n: usize,
     zs: &[f64],
     nz: usize,
@@ -39,7 +40,10 @@ fn left(
     if !stores::words_left(counts, p) {
         return false;
     }
-    if !stores::doubles_left(xy, n) {
+    if !stores::doubles_left(xs, n) {
+        return false;
+    }
+    if !stores::doubles_left(ys, n) {
         return false;
     }
     if !stores::doubles_left(zs, nz) {
@@ -57,17 +61,19 @@ fn stored(
     nz: usize,
     nm: usize,
     counts: &[u32],
-    xy: &[f64],
+    xs: &[f64],
+    ys: &[f64],
     zs: &[f64],
     ms: &[f64],
 ) -> bool {
     let c = head(e, b);
-    let c = seen::words(e, c, stores::words(counts, 0, p));
-    let c = seen::doubles(e, c, stores::doubles(xy, 0, n));
-    let c = seen::doubles(e, c, stores::doubles(zs, 0, nz));
-    let c = seen::doubles(e, c, stores::doubles(ms, 0, nm));
+    let c = seen::words(e, c, stores::words(counts, p));
+    let c = seen::doubles(e, c, stores::doubles(xs, n));
+    let c = seen::doubles(e, c, stores::doubles(ys, n));
+    let c = seen::doubles(e, c, stores::doubles(zs, nz));
+    let c = seen::doubles(e, c, stores::doubles(ms, nm));
     if seen::whole(e, c) {
-        return left(counts, p, xy, n, zs, nz, ms, nm);
+        return left(counts, p, xs, ys, n, zs, nz, ms, nm);
     }
     false
 }
@@ -76,23 +82,19 @@ fn where_set(flag: bool, n: usize) -> usize {
     if flag { n } else { 0 }
 }
 
-// The number, or 0 where twice it does not fit.
-fn twice(n: usize) -> usize {
-    if n < 0x8000_0000_0000_0000 { 2 * n } else { 0 }
-}
-
 // The refusal that is expected, and nothing stored.
 fn refused(
     e: &[u8],
     which: u8,
     at: usize,
     counts: &[u32],
-    xy: &[f64],
+    xs: &[f64],
+    ys: &[f64],
     zs: &[f64],
     ms: &[f64],
 ) -> bool {
     if seen::refusal(e, which, at as u64) {
-        return left(counts, 0, xy, 0, zs, 0, ms, 0);
+        return left(counts, 0, xs, ys, 0, zs, 0, ms, 0);
     }
     false
 }
@@ -104,7 +106,8 @@ fn judged(
     z: bool,
     m: bool,
     counts: &[u32],
-    xy: &[f64],
+    xs: &[f64],
+    ys: &[f64],
     zs: &[f64],
     ms: &[f64],
 ) -> bool {
@@ -115,24 +118,26 @@ fn judged(
                 e,
                 b,
                 b.parts,
-                twice(n),
+                n,
                 where_set(z, n),
                 where_set(m, n),
                 counts,
-                xy,
+                xs,
+                ys,
                 zs,
                 ms,
             )
         }
-        BodyAnswer::Short(at, _) => refused(e, 1, at, counts, xy, zs, ms),
-        BodyAnswer::Size(at) => refused(e, 3, at, counts, xy, zs, ms),
+        BodyAnswer::Short(at, _) => refused(e, 1, at, counts, xs, ys, zs, ms),
+        BodyAnswer::Size(at) => refused(e, 3, at, counts, xs, ys, zs, ms),
         BodyAnswer::Room(_, _) => false,
     }
 }
 
-fn fill(counts: &mut [u32], xy: &mut [f64], zs: &mut [f64], ms: &mut [f64]) {
+fn fill(counts: &mut [u32], xs: &mut [f64], ys: &mut [f64], zs: &mut [f64], ms: &mut [f64]) {
     stores::fill_words(counts);
-    stores::fill_doubles(xy);
+    stores::fill_doubles(xs);
+    stores::fill_doubles(ys);
     stores::fill_doubles(zs);
     stores::fill_doubles(ms);
 }
@@ -144,13 +149,14 @@ fn read(
     z: bool,
     m: bool,
     counts: &mut [u32],
-    xy: &mut [f64],
+    xs: &mut [f64],
+    ys: &mut [f64],
     zs: &mut [f64],
     ms: &mut [f64],
 ) -> bool {
-    fill(counts, xy, zs, ms);
-    let answer = multipart::read_body(s, parts, z, m, counts, xy, zs, ms);
-    judged(e, answer, z, m, counts, xy, zs, ms)
+    fill(counts, xs, ys, zs, ms);
+    let answer = multipart::read_body(s, parts, z, m, counts, xs, ys, zs, ms);
+    judged(e, answer, z, m, counts, xs, ys, zs, ms)
 }
 
 // The same with so many entries of each store.
@@ -165,14 +171,18 @@ fn read_into(
     nz: usize,
     nm: usize,
     counts: &mut [u32],
-    xy: &mut [f64],
+    xs: &mut [f64],
+    ys: &mut [f64],
     zs: &mut [f64],
     ms: &mut [f64],
 ) -> bool {
     if counts.len() < p {
         return false;
     }
-    if xy.len() < n {
+    if xs.len() < n {
+        return false;
+    }
+    if ys.len() < n {
         return false;
     }
     if zs.len() < nz {
@@ -188,7 +198,8 @@ fn read_into(
         z,
         m,
         &mut counts[0..p],
-        &mut xy[0..n],
+        &mut xs[0..n],
+        &mut ys[0..n],
         &mut zs[0..nz],
         &mut ms[0..nm],
     )
@@ -200,7 +211,8 @@ pub fn body_read(
     e: &[u8],
     flags: u8,
     counts: &mut [u32],
-    xy: &mut [f64],
+    xs: &mut [f64],
+    ys: &mut [f64],
     zs: &mut [f64],
     ms: &mut [f64],
 ) -> bool {
@@ -216,17 +228,18 @@ pub fn body_read(
         z,
         m,
         p + 2,
-        2 * n + 3,
+        n + 2,
         n + 2,
         n + 2,
         counts,
-        xy,
+        xs,
+        ys,
         zs,
         ms,
     ) {
         let nz = where_set(z, n);
         let nm = where_set(m, n);
-        return read_into(s, e, parts, z, m, p, 2 * n, nz, nm, counts, xy, zs, ms);
+        return read_into(s, e, parts, z, m, p, n, nz, nm, counts, xs, ys, zs, ms);
     }
     false
 }

@@ -15,23 +15,24 @@ fn layout(
     flags: u8,
     b: BBoxZ,
     counts: &[u32],
-    xy: &[f64],
+    xs: &[f64],
+    ys: &[f64],
     zs: &[f64],
     ms: &[f64],
     out: &mut [u8],
 ) -> LayoutAnswer {
     if flags == 0 {
-        return layouts::write_point_shape(out, b, counts, xy);
+        return layouts::write_point_shape(out, b, counts, xs, ys);
     }
     if flags == 2 {
-        return layouts::write_point_m_shape(out, b, counts, xy, ms);
+        return layouts::write_point_m_shape(out, b, counts, xs, ys, ms);
     }
     if flags == 3 {
-        return layouts::write_point_z_shape(out, b, counts, xy, zs, ms);
+        return layouts::write_point_z_shape(out, b, counts, xs, ys, zs, ms);
     }
     let z = flags % 2 == 1;
     let m = flags / 2 % 2 == 1;
-    layouts::write_body(out, false, z, m, b, counts, xy, zs, ms)
+    layouts::write_body(out, false, z, m, b, counts, xs, ys, zs, ms)
 }
 
 fn body(
@@ -39,13 +40,14 @@ fn body(
     flags: u8,
     b: BBoxZ,
     counts: &[u32],
-    xy: &[f64],
+    xs: &[f64],
+    ys: &[f64],
     zs: &[f64],
     ms: &[f64],
     out: &mut [u8],
 ) -> bool {
     stores::fill_bytes(out);
-    match layout(flags, b, counts, xy, zs, ms, out) {
+    match layout(flags, b, counts, xs, ys, zs, ms, out) {
         LayoutAnswer::Written(n) => written(e, n, out),
         LayoutAnswer::Tables => false,
         LayoutAnswer::Long => false,
@@ -55,7 +57,7 @@ fn body(
 
 // The first n bytes of the output are those expected, and the rest is as it was.
 fn written(e: &[u8], n: usize, out: &[u8]) -> bool {
-    if seen::whole(e, seen::bytes(e, seen::start(), stores::bytes(out, 0, n))) {
+    if seen::whole(e, seen::bytes(e, seen::start(), stores::bytes(out, n))) {
         return stores::bytes_left(out, n);
     }
     false
@@ -68,7 +70,8 @@ fn body_into(
     more: usize,
     b: BBoxZ,
     counts: &[u32],
-    xy: &[f64],
+    xs: &[f64],
+    ys: &[f64],
     zs: &[f64],
     ms: &[f64],
     out: &mut [u8],
@@ -77,7 +80,7 @@ fn body_into(
     if out.len() < room {
         return false;
     }
-    body(e, flags, b, counts, xy, zs, ms, &mut out[0..room])
+    body(e, flags, b, counts, xs, ys, zs, ms, &mut out[0..room])
 }
 
 fn body_twice(
@@ -85,15 +88,19 @@ fn body_twice(
     flags: u8,
     t: Shape,
     counts: &[u32],
-    values: &[f64],
+    xs: &[f64],
+    ys: &[f64],
+    zs: &[f64],
+    ms: &[f64],
     out: &mut [u8],
 ) -> bool {
-    let p = stores::words(counts, 0, t.p);
-    let xy = stores::doubles(values, 0, t.n);
-    let zs = stores::doubles(values, t.n, t.nz);
-    let ms = stores::doubles(values, t.nz, t.nm);
-    if body_into(e, flags, 5, t.bounds, p, xy, zs, ms, out) {
-        return body_into(e, flags, 0, t.bounds, p, xy, zs, ms, out);
+    let p = stores::words(counts, t.p);
+    let xs = stores::doubles(xs, t.nx);
+    let ys = stores::doubles(ys, t.ny);
+    let zs = stores::doubles(zs, t.nz);
+    let ms = stores::doubles(ms, t.nm);
+    if body_into(e, flags, 5, t.bounds, p, xs, ys, zs, ms, out) {
+        return body_into(e, flags, 0, t.bounds, p, xs, ys, zs, ms, out);
     }
     false
 }
@@ -103,14 +110,17 @@ pub fn body_written(
     e: &[u8],
     flags: u8,
     counts: &mut [u32],
-    values: &mut [f64],
+    xs: &mut [f64],
+    ys: &mut [f64],
+    zs: &mut [f64],
+    ms: &mut [f64],
     out: &mut [u8],
 ) -> bool {
-    let t = given::tables(s, 0, counts, values);
+    let t = given::tables(s, 0, counts, xs, ys, zs, ms);
     if t.at != s.len() {
         return false;
     }
-    body_twice(e, flags, t, counts, values, out)
+    body_twice(e, flags, t, counts, xs, ys, zs, ms, out)
 }
 
 // The writer's state; how far the input and the records have come, and what was seen of the entries. Not fine after a refusal.
@@ -166,7 +176,8 @@ fn add(
     w: Place,
     t: Shape,
     counts: &[u32],
-    xy: &[f64],
+    xs: &[f64],
+    ys: &[f64],
     zs: &[f64],
     ms: &[f64],
     out: &mut [u8],
@@ -178,7 +189,8 @@ fn add(
         code,
         t.bounds,
         counts,
-        xy,
+        xs,
+        ys,
         zs,
         ms,
         out,
@@ -199,6 +211,28 @@ fn add(
     }
 }
 
+// The same, with the tables at the front of the stores.
+fn add_front(
+    x: &[u8],
+    code: i32,
+    room: usize,
+    w: Place,
+    t: Shape,
+    counts: &[u32],
+    xs: &[f64],
+    ys: &[f64],
+    zs: &[f64],
+    ms: &[f64],
+    out: &mut [u8],
+) -> Place {
+    let p = stores::words(counts, t.p);
+    let xs = stores::doubles(xs, t.nx);
+    let ys = stores::doubles(ys, t.ny);
+    let zs = stores::doubles(zs, t.nz);
+    let ms = stores::doubles(ms, t.nm);
+    add(x, code, room, w, t, p, xs, ys, zs, ms, out)
+}
+
 fn next(
     s: &[u8],
     x: &[u8],
@@ -206,15 +240,14 @@ fn next(
     room: usize,
     w: Place,
     counts: &mut [u32],
-    values: &mut [f64],
+    xs: &mut [f64],
+    ys: &mut [f64],
+    zs: &mut [f64],
+    ms: &mut [f64],
     out: &mut [u8],
 ) -> Place {
-    let t = given::tables(s, w.at, counts, values);
-    let p = stores::words(counts, 0, t.p);
-    let xy = stores::doubles(values, 0, t.n);
-    let zs = stores::doubles(values, t.n, t.nz);
-    let ms = stores::doubles(values, t.nz, t.nm);
-    add(x, code, room, w, t, p, xy, zs, ms, out)
+    let t = given::tables(s, w.at, counts, xs, ys, zs, ms);
+    add_front(x, code, room, w, t, counts, xs, ys, zs, ms, out)
 }
 
 // All shapes in turn.
@@ -224,7 +257,10 @@ fn all(
     room: usize,
     shapes: usize,
     counts: &mut [u32],
-    values: &mut [f64],
+    xs: &mut [f64],
+    ys: &mut [f64],
+    zs: &mut [f64],
+    ms: &mut [f64],
     out: &mut [u8],
 ) -> Place {
     let code = given::int(s, 0);
@@ -232,7 +268,7 @@ fn all(
     let mut left = shapes;
     while 0 < left {
         left -= 1;
-        w = next(s, x, code, room, w, counts, values, out);
+        w = next(s, x, code, room, w, counts, xs, ys, zs, ms, out);
     }
     w
 }
@@ -247,7 +283,7 @@ fn finished(e: &[u8], w: Place, out: &[u8]) -> bool {
     let head = f.shp;
     let index = f.shx;
     let c = seen::front(e, seen::start(), head);
-    let c = seen::bytes(e, c, stores::bytes(out, 0, w.shp));
+    let c = seen::bytes(e, c, stores::bytes(out, w.shp));
     if seen::whole(e, seen::front(e, c, index)) {
         return stores::bytes_left(out, w.shp);
     }
@@ -270,11 +306,14 @@ fn file(
     x: &[u8],
     room: usize,
     counts: &mut [u32],
-    values: &mut [f64],
+    xs: &mut [f64],
+    ys: &mut [f64],
+    zs: &mut [f64],
+    ms: &mut [f64],
     out: &mut [u8],
 ) -> bool {
     stores::fill_bytes(out);
-    let w = all(s, x, room, x.len() / 8, counts, values, out);
+    let w = all(s, x, room, x.len() / 8, counts, xs, ys, zs, ms, out);
     if taken(s, x, w) {
         return finished(e, w, out);
     }
@@ -288,7 +327,10 @@ fn file_into(
     x: &[u8],
     more: usize,
     counts: &mut [u32],
-    values: &mut [f64],
+    xs: &mut [f64],
+    ys: &mut [f64],
+    zs: &mut [f64],
+    ms: &mut [f64],
     out: &mut [u8],
 ) -> bool {
     if e.len() < 72 {
@@ -304,7 +346,10 @@ fn file_into(
         x,
         given::after(8, more),
         counts,
-        values,
+        xs,
+        ys,
+        zs,
+        ms,
         &mut out[0..size],
     )
 }
@@ -314,7 +359,10 @@ pub fn files_written(
     s: &[u8],
     e: &[u8],
     counts: &mut [u32],
-    values: &mut [f64],
+    xs: &mut [f64],
+    ys: &mut [f64],
+    zs: &mut [f64],
+    ms: &mut [f64],
     out: &mut [u8],
 ) -> bool {
     let entries = 8 * given::word(s, 4);
@@ -322,8 +370,8 @@ pub fn files_written(
         return false;
     }
     let at = e.len() - entries;
-    if file_into(s, &e[0..at], &e[at..], 5, counts, values, out) {
-        return file_into(s, &e[0..at], &e[at..], 0, counts, values, out);
+    if file_into(s, &e[0..at], &e[at..], 5, counts, xs, ys, zs, ms, out) {
+        return file_into(s, &e[0..at], &e[at..], 0, counts, xs, ys, zs, ms, out);
     }
     false
 }

@@ -54,33 +54,27 @@ pub fn bounds(s: &[u8], at: usize) -> BBoxZ {
     }
 }
 
-// Entries went into a store up to a place of it, and the input goes on at a place.
+// So many entries went into a store, and the input goes on at a place.
 pub struct Run {
-    pub end: usize,
+    pub n: usize,
     pub at: usize,
 }
 
 fn nothing() -> Run {
-    Run {
-        end: 0,
-        at: NOWHERE,
-    }
+    Run { n: 0, at: NOWHERE }
 }
 
-// A number of doubles, and they, into the store from a place on.
-fn doubles(s: &[u8], at: usize, out: &mut [f64], from: usize) -> Run {
+// A number of doubles, and they.
+fn doubles(s: &[u8], at: usize, out: &mut [f64]) -> Run {
     let n = word(s, at);
     if at < s.len() {
         if 4 + 8 * n <= s.len() - at {
-            if from <= out.len() {
-                if n <= out.len() - from {
-                    let end = from + n;
-                    fields::read_doubles(s, at + 4, &mut out[from..end]);
-                    return Run {
-                        end: end,
-                        at: at + 4 + 8 * n,
-                    };
-                }
+            if n <= out.len() {
+                fields::read_doubles(s, at + 4, &mut out[0..n]);
+                return Run {
+                    n: n,
+                    at: at + 4 + 8 * n,
+                };
             }
         }
     }
@@ -106,7 +100,7 @@ fn counts(s: &[u8], at: usize, out: &mut [u32]) -> Run {
             if n <= out.len() {
                 read_words(s, at + 4, &mut out[0..n]);
                 return Run {
-                    end: n,
+                    n: n,
                     at: at + 4 + 4 * n,
                 };
             }
@@ -126,29 +120,40 @@ pub fn least(a: usize, b: usize) -> usize
     if a < b { a } else { b }
 }
 
-// A shape's tables: p counts in one store; in another xy up to n, z up to nz and m up to nm. The input goes on at a place.
+// A shape's tables, each at the front of its store: p counts, nx values of x, ny of y, nz of z and nm of m. The input goes on at a place.
 pub struct Shape {
     pub bounds: BBoxZ,
     pub p: usize,
-    pub n: usize,
+    pub nx: usize,
+    pub ny: usize,
     pub nz: usize,
     pub nm: usize,
     pub at: usize,
 }
 
-// The box, then the part counts, xy, z and m, each with its number of entries in front.
-pub fn tables(s: &[u8], at: usize, parts: &mut [u32], values: &mut [f64]) -> Shape {
+// The box, then the part counts, x, y, z and m, each with its number of entries in front.
+pub fn tables(
+    s: &[u8],
+    at: usize,
+    parts: &mut [u32],
+    xs: &mut [f64],
+    ys: &mut [f64],
+    zs: &mut [f64],
+    ms: &mut [f64],
+) -> Shape {
     let b = bounds(s, at);
     let p = counts(s, after(at, 64), parts);
-    let x = doubles(s, p.at, values, 0);
-    let z = doubles(s, x.at, values, x.end);
-    let m = doubles(s, z.at, values, z.end);
+    let x = doubles(s, p.at, xs);
+    let y = doubles(s, x.at, ys);
+    let z = doubles(s, y.at, zs);
+    let m = doubles(s, z.at, ms);
     Shape {
         bounds: b,
-        p: p.end,
-        n: x.end,
-        nz: z.end,
-        nm: m.end,
+        p: p.n,
+        nx: x.n,
+        ny: y.n,
+        nz: z.n,
+        nm: m.n,
         at: m.at,
     }
 }

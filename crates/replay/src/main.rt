@@ -30,11 +30,20 @@ fn mebibyte() -> [u8; 1048576]
 fn main() {
     let mut block = mebibyte();
     let mut counts = [0u32; 65536];
-    let mut xy = [0.0; 131072];
+    let mut xs = [0.0; 65536];
+    let mut ys = [0.0; 65536];
     let mut zs = [0.0; 65536];
     let mut ms = [0.0; 65536];
     let mut out = mebibyte();
-    let t = stream::run(&mut block, &mut counts, &mut xy, &mut zs, &mut ms, &mut out);
+    let t = stream::run(
+        &mut block,
+        &mut counts,
+        &mut xs,
+        &mut ys,
+        &mut zs,
+        &mut ms,
+        &mut out,
+    );
     number(b"cases=", t.cases);
     number(b" wrong=", t.wrong);
     number(b" first=", t.first);

@@ -58,30 +58,24 @@ pub fn bytes_left(xs: &[u8], from: usize) -> bool {
     true
 }
 
-// The entries from one place up to another; none, where there are not so many.
-pub fn words(xs: &[u32], from: usize, to: usize) -> &[u32] {
-    if from <= to {
-        if to <= xs.len() {
-            return &xs[from..to];
-        }
+// The first n entries; none, where there are not so many.
+pub fn words(xs: &[u32], n: usize) -> &[u32] {
+    if n <= xs.len() {
+        return &xs[0..n];
     }
     &xs[0..0]
 }
 
-pub fn doubles(xs: &[f64], from: usize, to: usize) -> &[f64] {
-    if from <= to {
-        if to <= xs.len() {
-            return &xs[from..to];
-        }
+pub fn doubles(xs: &[f64], n: usize) -> &[f64] {
+    if n <= xs.len() {
+        return &xs[0..n];
     }
     &xs[0..0]
 }
 
-pub fn bytes(xs: &[u8], from: usize, to: usize) -> &[u8] {
-    if from <= to {
-        if to <= xs.len() {
-            return &xs[from..to];
-        }
+pub fn bytes(xs: &[u8], n: usize) -> &[u8] {
+    if n <= xs.len() {
+        return &xs[0..n];
     }
     &xs[0..0]
 }

@@ -112,7 +112,8 @@ fn one(
     s: &[u8],
     t: Tally,
     counts: &mut [u32],
-    xy: &mut [f64],
+    xs: &mut [f64],
+    ys: &mut [f64],
     zs: &mut [f64],
     ms: &mut [f64],
     out: &mut [u8],
@@ -125,7 +126,8 @@ fn one(
         &s[at..end],
         &s[end..],
         counts,
-        xy,
+        xs,
+        ys,
         zs,
         ms,
         out,
@@ -137,7 +139,8 @@ fn block(
     s: &[u8],
     t: Tally,
     counts: &mut [u32],
-    xy: &mut [f64],
+    xs: &mut [f64],
+    ys: &mut [f64],
     zs: &mut [f64],
     ms: &mut [f64],
     out: &mut [u8],
@@ -146,7 +149,7 @@ fn block(
     let mut at = 0;
     while at < s.len() {
         let end = end_of(s, at);
-        u = one(&s[at..end], u, counts, xy, zs, ms, out);
+        u = one(&s[at..end], u, counts, xs, ys, zs, ms, out);
         at = end;
     }
     u
@@ -174,7 +177,8 @@ fn next(
     t: Tally,
     all: &mut [u8],
     counts: &mut [u32],
-    xy: &mut [f64],
+    xs: &mut [f64],
+    ys: &mut [f64],
     zs: &mut [f64],
     ms: &mut [f64],
     out: &mut [u8],
@@ -183,7 +187,7 @@ fn next(
     let n = given::least(said, all.len());
     let got = io::read_full(STDIN_FILENO, &mut all[0..n]);
     let k = given::least(got, n);
-    block(&all[0..k], came(t, said, got), counts, xy, zs, ms, out)
+    block(&all[0..k], came(t, said, got), counts, xs, ys, zs, ms, out)
 }
 
 // How many blocks may follow: none, once the stream has ended.
@@ -198,7 +202,8 @@ fn then(left: u64, ended: bool) -> u64
 pub fn run(
     all: &mut [u8],
     counts: &mut [u32],
-    xy: &mut [f64],
+    xs: &mut [f64],
+    ys: &mut [f64],
     zs: &mut [f64],
     ms: &mut [f64],
     out: &mut [u8],
@@ -212,7 +217,7 @@ pub fn run(
     };
     let mut left = 0xffff_ffff_ffff_ffff;
     while 0 < left {
-        t = next(t, all, counts, xy, zs, ms, out);
+        t = next(t, all, counts, xs, ys, zs, ms, out);
         left = then(left, t.ended);
     }
     t

@@ -48,7 +48,7 @@ back-turning Turns.Tables = refl
 pub one-turning : (a b : RingAnswer) → saidTurning a ≡ saidTurning b → a ≡ b
 one-turning = told-one saidTurning readTurning back-turning
 
--- ---- closing, with the store
+-- ---- closing, with the stores
 
 readClosing : Said ℕ → CloseAnswer
 readClosing (gives n) = Has.Points n
@@ -65,5 +65,5 @@ back-closing (Has.Room n) = refl
 pub one-closing : (a b : CloseAnswer) → saidClosing a ≡ saidClosing b → a ≡ b
 one-closing = told-one saidClosing readClosing back-closing
 
-pub one-result : (store : List Float) (run : ℕ) (a b : CloseAnswer) (s t : List Float) → Closing store run a s → Closing store run b t → (a ≡ b) × (s ≡ t)
-one-result store run a b s t p q = (one-closing a b (p .answered ∙ sym (q .answered)), p .left ∙ sym (q .left))
+pub one-result : (xs ys : List Float) (n : ℕ) (a b : CloseAnswer) (xs₁ ys₁ xs₂ ys₂ : List Float) → Closing xs ys n a xs₁ ys₁ → Closing xs ys n b xs₂ ys₂ → (a ≡ b) × (xs₁ ≡ xs₂) × (ys₁ ≡ ys₂)
+one-result xs ys n a b xs₁ ys₁ xs₂ ys₂ p q = (one-closing a b (p .answered ∙ sym (q .answered)), cc, cc)

@@ -1,91 +1,100 @@
--- Laws of runs of points, as code meets them: by the places of the coordinates in the flat run.
+-- Laws of runs of points, as code meets them: by the places of the coordinates in the two stores.
 use mathlib.Core.Path.{_≡_, refl, ap}
-use mathlib.Core.Bool.{Bool, true, false, _&&_}
+use mathlib.Core.Bool.{true, false}
 use mathlib.Core.List.{List, [], _∷_}
-use Prim.Native.Nat.{ℕ, suc, _+_, _-_, _/_, _%_, _≤_, _<_}
+use Prim.Native.Nat.{ℕ, zero, suc, _+_, _-_, _≤_, _<_}
 use native.Mathlib.Numerals.{add-one}
 use native.Mathlib.Omega.{arith}
-use lib.Ieee.{Float, nan, binary64, add, eq, ofBits, ofInt}
-use lib.ListN.{length, getD, drop, length-drop}
+use lib.Ieee.{Float, nan, binary64, add, ofBits, ofInt}
+use lib.ListN.{length, getD, take, drop}
 use lib.Seq.{drop-cons}
+use Rattle.rings.specs.Answers.{runOf}
 use Rattle.rings.specs.Points.{Point, points, equal, lastFrom, closed, appended, number, product, products, plus}
 
--- the point whose x stands at i
-abbrev pub pointAt : List Float → ℕ → Point
-pointAt xy i = record { x = getD xy i nan; y = getD xy (i + 1) nan }
-
-pub length-points : (xy : List Float) → length (points xy) ≡ length xy / 2
+-- a point and the others, as far as both stores go
+pub points-none : (ys : List Float) → points [] ys ≡ []
 unfolding points
-length-points [] = refl
-length-points (x ∷ []) = refl
-length-points (x ∷ y ∷ xy) = omega (arith, length-points xy)
+points-none ys = refl
 
--- ---- the first point and the last
-
-last-at : (x y : Float) (xy : List Float) → length xy % 2 ≡ 0 → lastFrom (record { x = x; y = y }) (points xy) ≡ record { x = getD (x ∷ y ∷ xy) (length xy) nan; y = getD (x ∷ y ∷ xy) (suc (length xy)) nan }
+pub points-end : (x : Float) (xs : List Float) → points (x ∷ xs) [] ≡ []
 unfolding points
-last-at x y [] e = refl
-last-at x y (a ∷ []) e = absurd (omega arith)
-last-at x y (a ∷ b ∷ xy) e = last-at a b xy (omega arith)
+points-end x xs = refl
 
--- the first coordinate equals the last but one, and the second the last
-abbrev pub sameEnds : List Float → Bool
-sameEnds xy = eq (getD xy 0 nan) (getD xy (length xy - 2) nan) && eq (getD xy 1 nan) (getD xy (length xy - 1) nan)
+pub points-one-more : (x : Float) (xs : List Float) (y : Float) (ys : List Float) → points (x ∷ xs) (y ∷ ys) ≡ record { x = x; y = y } ∷ points xs ys
+unfolding points
+points-one-more x xs y ys = refl
 
-pub closed-at : (xy : List Float) → length xy % 2 ≡ 0 → (length xy ≡ 0 → ⊥) → closed (points xy) ≡ sameEnds xy
-unfolding points closed
-closed-at [] e h = absurd (h refl)
-closed-at (x ∷ []) e h = absurd (omega arith)
-closed-at (x ∷ y ∷ xy) e h =
-    let a : suc (suc (length xy)) - 2 ≡ length xy = omega arith in
-    let b : suc (suc (length xy)) - 1 ≡ suc (length xy) = omega arith in
-    rw (a, b) (ap (equal (record { x = x; y = y })) (last-at x y xy (omega arith)))
+-- point i, and k points from point i on
+abbrev pub pointAt : List Float → List Float → ℕ → Point
+pointAt xs ys i = record { x = getD xs i nan; y = getD ys i nan }
 
-pub none-closed : (xy : List Float) → length xy ≡ 0 → closed (points xy) ≡ false
-unfolding points closed
-none-closed [] e = refl
-none-closed (x ∷ xy) e = absurd (omega arith)
+abbrev pub pointsFrom : List Float → List Float → ℕ → ℕ → List Point
+pointsFrom xs ys i zero = []
+pointsFrom xs ys i (suc k) = pointAt xs ys i ∷ pointsFrom xs ys (suc i) k
 
--- ---- what closing appends
+module _ (xs ys : List Float) where
+  -- ---- a run that lies in both stores is its points, place by place
+
+  points-from : (i k : ℕ) → i + k ≤ length xs → i + k ≤ length ys → points (take k (drop i xs)) (take k (drop i ys)) ≡ pointsFrom xs ys i k
+  unfolding points
+  points-from i zero h g = refl
+  points-from i (suc k) h g =
+      let x : i < length xs = omega arith in
+      let y : i < length ys = omega arith in
+      rw (drop-cons xs i nan, drop-cons ys i nan) (ap (_∷_ (pointAt xs ys i)) (points-from (suc i) k (omega arith) (omega arith)))
+
+  pub run-points : (n : ℕ) → n ≤ length xs → n ≤ length ys → runOf xs ys n ≡ pointsFrom xs ys 0 n
+  run-points n h g = points-from 0 n (omega arith) (omega arith)
+
+  pub length-from : (i k : ℕ) → length (pointsFrom xs ys i k) ≡ k
+  length-from i zero = refl
+  length-from i (suc k) = ap suc (length-from (suc i) k)
+
+  -- ---- the first point and the last
+
+  last-at : (i k l : ℕ) → i + k ≡ l → lastFrom (pointAt xs ys i) (pointsFrom xs ys (suc i) k) ≡ pointAt xs ys l
+  last-at i zero l e = ap (pointAt xs ys) (omega arith)
+  last-at i (suc k) l e = last-at (suc i) k l (omega arith)
+
+  pub closed-at : (n : ℕ) → (n ≡ 0 → ⊥) → closed (pointsFrom xs ys 0 n) ≡ equal (pointAt xs ys 0) (pointAt xs ys (n - 1))
+  unfolding closed
+  closed-at zero h = absurd (h refl)
+  closed-at (suc k) h = ap (equal (pointAt xs ys 0)) (last-at 0 k (suc k - 1) (omega arith))
+
+  pub none-closed : (n : ℕ) → n ≡ 0 → closed (pointsFrom xs ys 0 n) ≡ false
+  unfolding closed
+  none-closed n z = rw z
+
+  -- ---- what closing appends
+
+  pub appends-first : (n : ℕ) → (n ≡ 0 → ⊥) → closed (pointsFrom xs ys 0 n) ≡ false → appended (pointsFrom xs ys 0 n) ≡ pointAt xs ys 0 ∷ []
+  unfolding appended
+  appends-first zero h e = absurd (h refl)
+  appends-first (suc k) h e = rw e
+
+  -- ---- a turn of the loop that sums
+
+  pub sum-turn : (n i : ℕ) (sum : Float) → i + 1 < n → plus (add binary64 sum (product (pointAt xs ys i) (pointAt xs ys (i + 1)))) (products (pointsFrom xs ys (i + 1) (n - (i + 1)))) ≡ plus sum (products (pointsFrom xs ys i (n - i)))
+  unfolding products
+  sum-turn n i sum h =
+      let a : n - (i + 1) ≡ suc (n - (i + 2)) = omega arith in
+      let b : n - i ≡ suc (suc (n - (i + 2))) = omega arith in
+      rw (a, b, add-one)
+
+  no-neighbours : (i k : ℕ) → k ≤ 1 → products (pointsFrom xs ys i k) ≡ []
+  unfolding products
+  no-neighbours i zero h = refl
+  no-neighbours i (suc zero) h = refl
+  no-neighbours i (suc (suc k)) h = absurd (omega arith)
+
+  -- the last point has none
+  pub sum-end : (n i : ℕ) (sum : Float) → n ≤ i + 1 → plus sum (products (pointsFrom xs ys i (n - i))) ≡ sum
+  sum-end n i sum h = ap (plus sum) (no-neighbours i (n - i) (omega arith))
 
 pub appends-none : (ps : List Point) → closed ps ≡ true → appended ps ≡ []
 unfolding appended
 appends-none [] e = refl
 appends-none (p ∷ ps) e = rw e
-
-pub appends-first : (xy : List Float) → 1 < length xy → closed (points xy) ≡ false → appended (points xy) ≡ pointAt xy 0 ∷ []
-unfolding points appended
-appends-first [] h e = absurd (omega arith)
-appends-first (x ∷ []) h e = absurd (omega arith)
-appends-first (x ∷ y ∷ xy) h e = rw e
-
--- ---- a turn of the loop that sums
-
--- the run from a point on
-two : (xy : List Float) (i : ℕ) → i + 1 < length xy → points (drop i xy) ≡ pointAt xy i ∷ points (drop (i + 2) xy)
-unfolding points
-two xy i h =
-    let a : i + 2 ≡ suc (suc i) = omega arith in
-    let b : suc i < length xy = omega arith in
-    let g : i < length xy = omega arith in
-    rw (drop-cons xy i nan g, drop-cons xy (suc i) nan b, a, add-one)
-
-pub sum-turn : (xy : List Float) (i : ℕ) (sum : Float) → i + 2 + 1 < length xy → plus (add binary64 sum (product (pointAt xy i) (pointAt xy (i + 2)))) (products (points (drop (i + 2) xy))) ≡ plus sum (products (points (drop i xy)))
-unfolding products
-sum-turn xy i sum h =
-    let g : i + 1 < length xy = omega arith in
-    rw (two xy i g, two xy (i + 2) h)
-
-no-neighbours : (xy : List Float) → length xy ≤ 2 → products (points xy) ≡ []
-unfolding points products
-no-neighbours [] h = refl
-no-neighbours (x ∷ []) h = refl
-no-neighbours (x ∷ y ∷ []) h = refl
-no-neighbours (x ∷ y ∷ z ∷ xy) h = absurd (omega arith)
-
--- the last point has none
-pub sum-end : (xy : List Float) (i : ℕ) (sum : Float) → length xy ≤ i + 2 → plus sum (products (points (drop i xy))) ≡ sum
-sum-end xy i sum h = ap (plus sum) (no-neighbours (drop i xy) (simp length-drop (omega arith)))
 
 -- ---- the code's numbers
 

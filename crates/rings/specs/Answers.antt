@@ -1,9 +1,9 @@
--- What each call of "Rings" answers, in document 01's terms, and what closing leaves in the store.
+-- What each call of "Rings" answers, in document 01's terms, and what closing leaves in the stores.
 use mathlib.Core.Path.{_≡_}
-use mathlib.Core.Bool.{Bool, true, false}
-use mathlib.Core.List.{List, [], _∷_}
-use Prim.Native.Nat.{ℕ, _+_, _*_, _%_}
-use lib.Dec.{leb, eqb}
+use mathlib.Core.Bool.{Bool, true, false, _&&_}
+use mathlib.Core.List.{List, [], _∷_, _++_}
+use Prim.Native.Nat.{ℕ, _+_}
+use lib.Dec.{leb}
 use lib.Ieee.{Float}
 use lib.ListN.{length, take}
 use lib.Seq.{sets}
@@ -15,12 +15,20 @@ use Rattle.rings.specs.declared.CloseAnswer.{CloseAnswer}
 use Rattle.rings.specs.declared.CloseAnswer.the-variants as Has
 use Rattle.rings.specs.declared.RingAnswer.{RingAnswer}
 use Rattle.rings.specs.declared.RingAnswer.the-variants as Turns
-use Rattle.rings.specs.Points.{Point, points, flat, closed, appended, Turning, outer, inner, turning}
+use Rattle.rings.specs.Points.{Point, points, xOf, yOf, closed, appended, Turning, outer, inner, turning}
+
+-- a run of n points is the first n of both stores
+abbrev pub runOf : List Float → List Float → ℕ → List Point
+runOf xs ys n = points (take n xs) (take n ys)
 
 module _ {A : Type 0} where
-  -- what is said of the points of a run; an xy run of odd length is 10
-  abbrev pub ofRun : (List Point → A) → List Float → Said A
-  ofRun what xy = first ((eqb (length xy % 2) 0, tables) ∷ []) (gives (what (points xy)))
+  -- past either store it is 10
+  abbrev pub runTests : List Float → List Float → ℕ → List (Bool × Said A)
+  runTests xs ys n = (leb n (length xs), tables) ∷ (leb n (length ys), tables) ∷ []
+
+  -- what is said of its points
+  abbrev pub ofRun : (List Point → A) → List Float → List Float → ℕ → Said A
+  ofRun what xs ys n = first (runTests xs ys n) (gives (what (runOf xs ys n)))
 
 -- ---- closed
 
@@ -29,8 +37,8 @@ saidClosed Is.Closed = gives true
 saidClosed Is.Open = gives false
 saidClosed Is.Tables = tables
 
-unfoldable pub closedOf : List Float → Said Bool
-closedOf xy = ofRun closed xy
+unfoldable pub closedOf : List Float → List Float → ℕ → Said Bool
+closedOf xs ys n = ofRun closed xs ys n
 
 -- ---- turning
 
@@ -39,8 +47,8 @@ saidTurning Turns.OuterRing = gives outer
 saidTurning Turns.InnerRing = gives inner
 saidTurning Turns.Tables = tables
 
-unfoldable pub turningOf : List Float → Said Turning
-turningOf xy = ofRun turning xy
+unfoldable pub turningOf : List Float → List Float → ℕ → Said Turning
+turningOf xs ys n = ofRun turning xs ys n
 
 -- ---- closing
 
@@ -49,29 +57,25 @@ saidClosing (Has.Points n) = gives n
 saidClosing Has.Tables = tables
 saidClosing (Has.Room n) = room 0 n
 
--- the run in front of a store
-abbrev pub front : List Float → ℕ → List Point
-front store run = points (take run store)
-
 -- how many points a run has when it is closed
 abbrev pub countThen : List Point → ℕ
 countThen ps = length ps + length (appended ps)
 
--- a run past its store or of odd length is 10, before 6: the store has to hold the closed run
-unfoldable pub closingOf : List Float → ℕ → Said ℕ
-closingOf store run =
-    first
-    ((leb run (length store), tables)
-    ∷ (eqb (run % 2) 0, tables)
-    ∷ (leb (2 * countThen (front store run)) (length store), room 0 (countThen (front store run)))
-    ∷ [])
-    (gives (countThen (front store run)))
+-- 10 comes before 6: both stores have to hold the closed run
+unfoldable pub closingOf : List Float → List Float → ℕ → Said ℕ
+closingOf xs ys n =
+    let closed-has = countThen (runOf xs ys n) in
+    first (runTests xs ys n ++ ((leb closed-has (length xs) && leb closed-has (length ys), room 0 closed-has) ∷ [])) (gives closed-has)
 
--- the store at exit
-unfoldable pub storeThen : List Float → ℕ → List Float
-storeThen store run = unlessRefused (closingOf store run) store (sets store run (flat (appended (front store run))))
+-- the stores with what is appended, which stands behind the run
+abbrev pub xThen : List Float → List Float → ℕ → List Float
+xThen xs ys n = sets xs n (xOf (appended (runOf xs ys n)))
 
--- what a call of closing comes to
-pub record Closing (store : List Float) (run : ℕ) (answer : CloseAnswer) (after : List Float) : Type 0 where
-  pub answered : saidClosing answer ≡ closingOf store run
-  pub left : after ≡ storeThen store run
+abbrev pub yThen : List Float → List Float → ℕ → List Float
+yThen xs ys n = sets ys n (yOf (appended (runOf xs ys n)))
+
+-- what a call of closing comes to: the answer, and both stores
+pub record Closing (xs ys : List Float) (n : ℕ) (answer : CloseAnswer) (xs′ ys′ : List Float) : Type 0 where
+  pub answered : saidClosing answer ≡ closingOf xs ys n
+  pub x-left : xs′ ≡ unlessRefused (saidClosing answer) xs (xThen xs ys n)
+  pub y-left : ys′ ≡ unlessRefused (saidClosing answer) ys (yThen xs ys n)

@@ -1,6 +1,6 @@
 -- Runs of points, and what document 01 says of them under "Rings": closed, closing and turning.
 use mathlib.Core.Bool.{Bool, false, cond, _&&_}
-use mathlib.Core.List.{List, [], _∷_, foldl}
+use mathlib.Core.List.{List, [], _∷_, foldl, map}
 use Prim.Native.Nat.{ℕ}
 use lib.IntN.{pos}
 use lib.Ieee.{Float, binary64, add, sub, mul, div, lt, eq, ofInt}
@@ -9,16 +9,18 @@ pub record Point : Type 0 where
   pub x : Float
   pub y : Float
 
--- the points of a flat run x0 y0 x1 y1 ..
-unfoldable pub points : List Float → List Point
-points [] = []
-points (x ∷ []) = []
-points (x ∷ y ∷ xy) = record { x = x; y = y } ∷ points xy
+-- a point for each x and y
+unfoldable pub points : List Float → List Float → List Point
+points [] ys = []
+points (x ∷ xs) [] = []
+points (x ∷ xs) (y ∷ ys) = record { x = x; y = y } ∷ points xs ys
 
--- and the flat run of points
-unfoldable pub flat : List Point → List Float
-flat [] = []
-flat (p ∷ ps) = p .x ∷ p .y ∷ flat ps
+-- and the x of points, and their y
+abbrev pub xOf : List Point → List Float
+xOf ps = map (λ (p : Point). p .x) ps
+
+abbrev pub yOf : List Point → List Float
+yOf ps = map (λ (p : Point). p .y) ps
 
 -- ---- closed: there is a first point and it equals the last in x and y as IEEE numbers
 

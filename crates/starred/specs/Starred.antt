@@ -16,7 +16,7 @@ use Rattle.format.specs.Shapes.{Shape, parted}
 use Rattle.header.specs.declared.Header.{Header}
 use Rattle.header.specs.Reading.{headerOf}
 use Rattle.multipart.specs.declared.Body.{Body}
-use Rattle.multipart.specs.Body.{countsIn, xyIn, bodyOf}
+use Rattle.multipart.specs.Body.{countsIn, xIn, yIn, bodyOf}
 use Rattle.rings.specs.Answers.{closedOf, turningOf}
 use Rattle.rings.specs.Points.{Turning, outer, inner}
 
@@ -81,24 +81,17 @@ body starts n k = replicate 32 0 ++ (little (length starts) ++ (little n ++ (fla
 abbrev bitsOf : Float → ℤ
 bitsOf x = pos (toBits binary64 x)
 
--- read without z and m into stores with room for 4 parts and 8 points: the counts, or the counts and the bits of the pairs
+-- read without z and m into stores with room for 4 parts and 8 points: the counts, or the counts, the bits of each x and those of each y
+abbrev readBody : (List ℕ → List ℤ) → List ℕ → List ℤ
+readBody show s = shown (λ (b : Body). show s) (bodyOf true false false s 4 8 8 0 0)
+
 abbrev readCounts : List ℕ → List ℤ
-readCounts s = shown (λ (b : Body). map pos (countsIn true s)) (bodyOf true false false s 4 16 0 0)
+readCounts = readBody (λ (s : List ℕ). map pos (countsIn true s))
 
 abbrev readPairs : List ℕ → List ℤ
-readPairs s = shown (λ (b : Body). map pos (countsIn true s) ++ map bitsOf (xyIn true s)) (bodyOf true false false s 4 16 0 0)
+readPairs = readBody (λ (s : List ℕ). map pos (countsIn true s) ++ (map bitsOf (xIn true s) ++ map bitsOf (yIn true s)))
 
 -- ---- rings
-
--- (0,0), (0,1), (1,1), (1,0), (0,0), and reversed
-abbrev number : ℕ → Float
-number n = ofInt binary64 (pos n)
-
-abbrev square : List Float
-square = map number (0 ∷ 0 ∷ 0 ∷ 1 ∷ 1 ∷ 1 ∷ 1 ∷ 0 ∷ 0 ∷ 0 ∷ [])
-
-abbrev reversed : List Float
-reversed = map number (0 ∷ 0 ∷ 1 ∷ 0 ∷ 1 ∷ 1 ∷ 0 ∷ 1 ∷ 0 ∷ 0 ∷ [])
 
 -- 1 for closed and for inner, 0 for not closed and for outer
 abbrev isClosed : Bool → List ℤ
@@ -107,6 +100,13 @@ isClosed b = cond b (pos 1) (pos 0) ∷ []
 abbrev isInner : Turning → List ℤ
 isInner outer = pos 0 ∷ []
 isInner inner = pos 1 ∷ []
+
+-- all x and all y of a run, as whole numbers
+abbrev numbers : List ℕ → List Float
+numbers ns = map (λ (n : ℕ). ofInt binary64 (pos n)) ns
+
+abbrev turned : List ℕ → List ℕ → List ℤ
+turned xs ys = shown isInner (turningOf (numbers xs) (numbers ys) (length xs))
 
 -- ---- the table
 
@@ -126,17 +126,17 @@ rows =
     ∷ record { given = lengthsAt (pos 15) 1 5; document = pos 0 ∷ pos 92 ∷ pos 120 ∷ [] }
     -- n=5: starts 0, 2 give 2 and 3 points; start 3 gives one part of 2, the first two pairs; start -2 reads 7
     ∷ record { given = readCounts (body (0 ∷ 2 ∷ []) 5 5); document = pos 0 ∷ pos 2 ∷ pos 3 ∷ [] }
-    ∷ record { given = readPairs (body (3 ∷ []) 5 5); document = pos 0 ∷ pos 2 ∷ pos 1 ∷ pos 2 ∷ pos 3 ∷ pos 4 ∷ [] }
+    ∷ record { given = readPairs (body (3 ∷ []) 5 5); document = pos 0 ∷ pos 2 ∷ pos 1 ∷ pos 3 ∷ pos 2 ∷ pos 4 ∷ [] }
     ∷ record { given = readCounts (body (0xffff_fffe ∷ []) 5 7); document = pos 0 ∷ pos 7 ∷ [] }
     -- starts 0, 4, 2 with n=5: 3 at 44, or 1 if part 0 is cut, here in front of its last pair, at 100
     ∷ record { given = readCounts (body (0 ∷ 4 ∷ 2 ∷ []) 5 4); document = pos 3 ∷ pos 44 ∷ [] }
     ∷ record { given = readCounts (body (0 ∷ 4 ∷ 2 ∷ []) 5 3); document = pos 1 ∷ pos 100 ∷ pos 0 ∷ [] }
     -- start -1, n=2,147,483,647: 3 at 40
     ∷ record { given = readCounts (body (0xffff_ffff ∷ []) 2147483647 0); document = pos 3 ∷ pos 40 ∷ [] }
-    -- the square is outer; reversed, inner; an empty run is not closed, and outer
-    ∷ record { given = shown isInner (turningOf square); document = pos 0 ∷ pos 0 ∷ [] }
-    ∷ record { given = shown isInner (turningOf reversed); document = pos 0 ∷ pos 1 ∷ [] }
-    ∷ record { given = shown isClosed (closedOf []) ++ shown isInner (turningOf []); document = pos 0 ∷ pos 0 ∷ pos 0 ∷ pos 0 ∷ [] }
+    -- (0,0), (0,1), (1,1), (1,0), (0,0) is outer; reversed, inner; an empty run is not closed, and outer
+    ∷ record { given = turned (0 ∷ 0 ∷ 1 ∷ 1 ∷ 0 ∷ []) (0 ∷ 1 ∷ 1 ∷ 0 ∷ 0 ∷ []); document = pos 0 ∷ pos 0 ∷ [] }
+    ∷ record { given = turned (0 ∷ 1 ∷ 1 ∷ 0 ∷ 0 ∷ []) (0 ∷ 0 ∷ 1 ∷ 1 ∷ 0 ∷ []); document = pos 0 ∷ pos 1 ∷ [] }
+    ∷ record { given = shown isClosed (closedOf [] [] 0) ++ turned [] []; document = pos 0 ∷ pos 0 ∷ pos 0 ∷ pos 0 ∷ [] }
     ∷ []
 
 -- every row of the table is as the document says

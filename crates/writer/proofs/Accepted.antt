@@ -15,6 +15,7 @@ use Rattle.format.specs.Encoding.{Held}
 use Rattle.format.specs.Kinds.{kindAt, kindOr}
 use Rattle.format.specs.Lengths.{Form, nothing, onePoint, manyPoints, severalForm, formOf, formIn, formAt}
 use Rattle.format.specs.Lengths
+use Rattle.format.specs.Order.{first}
 use Rattle.format.specs.Said.{gives}
 use Rattle.format.specs.Shapes.{Shape, there, OfKind, ownKind, partsIn, pointsIn}
 use Rattle.format.specs.Units.{sameInt}
@@ -41,7 +42,7 @@ pub record Accepted (s : State) (t : Lent) : Type 0 where
   pub not-first : isZero (t .code) && isZero (s .kind) ≡ false
   pub same-kind : isZero (s .kind) || isZero (t .code) || sameInt (s .kind) (t .code) ≡ true
   pub agree : lentAgree t ≡ true
-  pub counts-held : countsHeld (lentKind t .parts) (t .counts) (t .xy) ≡ true
+  pub counts-held : countsHeld (lentKind t .parts) (t .counts) (t .xs) ≡ true
   pub held : wordsThen s t < 2 ^ 31
 
 -- a kind that has a form is in the table
@@ -52,6 +53,10 @@ form-there (some form) e = refl
 kind-there : (o : Option Kind) → there (formIn o) ≡ true → (o ≡ some (kindOr o)) × (formOf (kindOr o) ≡ some (formOr (formIn o)))
 kind-there none e = absurd (let z : _≡_ {A = ℕ} 0 1 = cc in omega arith)
 kind-there (some k) e = (refl, form-there (formOf k) e)
+
+pub adding-is : (s : State) (t : Lent) (out start entry : ℕ) → addingOf s t out start entry ≡ first (addTests s t out start entry) (gives (recordSize t))
+unfolding addingOf
+adding-is s t out start entry = refl
 
 pub accepted : (s : State) (t : Lent) (out start entry n : ℕ) → addingOf s t out start entry ≡ gives n → Accepted s t
 unfolding addingOf
@@ -78,10 +83,10 @@ pub record Fits (k : Kind) (s : Shape) : Type 0 where
   pub parts-held : Held (partsIn s)
   pub points-held : Held (pointsIn s)
 
-point-fits : (k : Kind) (xy zs ms : List Float) → formOf k ≡ some onePoint → Agreed (k .z) (k .m) 1 xy zs ms → Fits k (pointShape k xy zs ms)
-point-fits k [] zs ms f a = absurd (omega (arith, a .xy-has))
-point-fits k (x ∷ []) zs ms f a = absurd (omega (arith, a .xy-has))
-point-fits k (x ∷ y ∷ xy) zs ms f a =
+point-fits : (k : Kind) (xs ys zs ms : List Float) → formOf k ≡ some onePoint → Agreed (k .z) (k .m) 1 xs ys zs ms → Fits k (pointShape k xs ys zs ms)
+point-fits k [] ys zs ms f a = absurd (omega (arith, a .xs-has))
+point-fits k (x ∷ xs) [] zs ms f a = absurd (omega (arith, a .ys-has))
+point-fits k (x ∷ xs) (y ∷ ys) zs ms f a =
     record {
       of-kind = record { form = f; has-z = there-value (k .z) zs (a .zs-has); has-m = there-value (k .m) ms (a .ms-has) };
       parts-held = rw parts-point (omega arith);
@@ -93,14 +98,14 @@ module _ (s : State) (t : Lent) (a : Accepted s t) where
   code = code-is (t .code) (lentKind t) (a .kind)
 
   -- the tables agree on their points, by the form
-  pub point-tables : lentForm t ≡ onePoint → Agreed (lentKind t .z) (lentKind t .m) 1 (t .xy) (t .zs) (t .ms)
-  point-tables e = agreed (eqb (length (t .counts)) 0) (lentKind t .z) (lentKind t .m) 1 (t .xy) (t .zs) (t .ms) (rw e at (a .agree)) .1
+  pub point-tables : lentForm t ≡ onePoint → Agreed (lentKind t .z) (lentKind t .m) 1 (t .xs) (t .ys) (t .zs) (t .ms)
+  point-tables e = agreed (eqb (length (t .counts)) 0) (lentKind t .z) (lentKind t .m) 1 (t .xs) (t .ys) (t .zs) (t .ms) (rw e at (a .agree)) .1
 
   -- of several points too; a multipoint has no part counts
   pub several-tables : (parts : Bool) → lentForm t ≡ severalForm parts
-      → ((parts || eqb (length (t .counts)) 0) ≡ true) × Agreed (lentKind t .z) (lentKind t .m) (pointsLent parts (t .counts) (t .xy)) (t .xy) (t .zs) (t .ms)
+      → ((parts || eqb (length (t .counts)) 0) ≡ true) × Agreed (lentKind t .z) (lentKind t .m) (pointsLent parts (t .counts) (t .xs)) (t .xs) (t .ys) (t .zs) (t .ms)
   several-tables parts e =
-      agreed (parts || eqb (length (t .counts)) 0) (lentKind t .z) (lentKind t .m) (pointsLent parts (t .counts) (t .xy)) (t .xy) (t .zs) (t .ms)
+      agreed (parts || eqb (length (t .counts)) 0) (lentKind t .z) (lentKind t .m) (pointsLent parts (t .counts) (t .xs)) (t .xs) (t .ys) (t .zs) (t .ms)
       (sym (several-agree t parts e) ∙ a .agree)
 
   flags : Flags (lentKind t) (lentForm t)
@@ -113,12 +118,12 @@ module _ (s : State) (t : Lent) (a : Accepted s t) where
   several-fits parts e =
       let k = lentKind t in
       let u = several-tables parts e in
-      let held = both-true _ _ (subst (λ (p : Bool). countsHeld p (t .counts) (t .xy) ≡ true) (several-parts parts e) (a .counts-held)) in
+      let held = both-true _ _ (subst (λ (p : Bool). countsHeld p (t .counts) (t .xs) ≡ true) (several-parts parts e) (a .counts-held)) in
       subst (Fits k) (sym (lent-several t parts e))
       (record {
-        of-kind = several-of-kind k (t .box) (t .counts) (t .xy) (t .zs) (t .ms) parts (a .form ∙ ap some e) (u .1);
-        parts-held = subst Held (sym (parts-in (k .z) (k .m) (t .box) (t .counts) (t .xy) (t .zs) (t .ms) parts (u .0))) (ltb-true _ _ (held .0));
-        points-held = subst Held (sym (points-in (k .z) (k .m) (t .box) (t .counts) (t .xy) (t .zs) (t .ms) parts (u .1 .xy-has))) (ltb-true _ _ (held .1));
+        of-kind = several-of-kind k (t .box) (t .counts) (t .xs) (t .ys) (t .zs) (t .ms) parts (a .form ∙ ap some e) (u .1);
+        parts-held = subst Held (sym (parts-in (k .z) (k .m) (t .box) (t .counts) (t .xs) (t .ys) (t .zs) (t .ms) parts (u .0))) (ltb-true _ _ (held .0));
+        points-held = subst Held (sym (points-in (k .z) (k .m) (t .box) (t .counts) (t .xs) (t .ys) (t .zs) (t .ms) parts (u .1))) (ltb-true _ _ (held .1));
       })
 
   pub shape-fits : Fits (lentKind t) (lentShape t)
@@ -127,7 +132,7 @@ module _ (s : State) (t : Lent) (a : Accepted s t) where
       go : (form : Form) → lentForm t ≡ form → Fits (lentKind t) (lentShape t)
       go nothing e =
           rw (lent-nothing t e) (record { of-kind = rw e at (a .form); parts-held = rw parts-null (omega arith); points-held = rw points-null (omega arith) })
-      go onePoint e = rw (lent-point t e) (point-fits (lentKind t) (t .xy) (t .zs) (t .ms) (rw e at (a .form)) (point-tables e))
+      go onePoint e = rw (lent-point t e) (point-fits (lentKind t) (t .xs) (t .ys) (t .zs) (t .ms) (rw e at (a .form)) (point-tables e))
       go manyPoints e = several-fits false e
       go Lengths.parts e = several-fits true e
 

@@ -46,19 +46,19 @@ module _ (s : State) (t : Lent) (out start entry : ℕ) (k : Kind) (w after : Wo
   numbers : Fine s
   numbers = fine s (p .fine)
 
-  shape : lentShape t ≡ shapeBy k (t .box) (t .counts) (t .xy) (t .zs) (t .ms)
+  shape : lentShape t ≡ shapeBy k (t .box) (t .counts) (t .xs) (t .ys) (t .zs) (t .ms)
   shape = shape-is t k (p .shape .of-code)
 
-  words : shapeWords (lentShape t) ≡ wordsBy k (t .counts) (t .xy)
-  words = ap shapeWords shape ∙ words-are k (t .box) (t .counts) (t .xy) (t .zs) (t .ms) (p .shape .agrees)
+  words : shapeWords (lentShape t) ≡ wordsBy k (t .counts) (t .xs)
+  words = ap shapeWords shape ∙ words-are k (t .box) (t .counts) (t .xs) (t .ys) (t .zs) (t .ms) (p .shape .agrees)
 
   pub starts : start ≤ out
   starts = omega (arith, p .shape .room)
 
-  pub whole : 8 + 2 * wordsBy k (t .counts) (t .xy) ≤ out - start
+  pub whole : 8 + 2 * wordsBy k (t .counts) (t .xs) ≤ out - start
   whole = omega (arith, p .shape .room, words)
 
-  pub ready : (bytes : ℕ) → bytes ≡ out - start → Ready k (t .counts) (t .xy) (t .zs) (t .ms) bytes
+  pub ready : (bytes : ℕ) → bytes ≡ out - start → Ready k (t .counts) (t .xs) (t .ys) (t .zs) (t .ms) bytes
   ready bytes e =
       record {
         agrees = p .shape .agrees;
@@ -72,7 +72,7 @@ module _ (s : State) (t : Lent) (out start entry : ℕ) (k : Kind) (w after : Wo
   pub code : t .code ≡ pos (k .code)
   code = code-is (t .code) k (p .shape .of-code .kind-is)
 
-  pub content : w ≡ wordsOf (wordsBy k (t .counts) (t .xy))
+  pub content : w ≡ wordsOf (wordsBy k (t .counts) (t .xs))
   content = p .shape .words-are ∙ ap wordsOf words
 
   pub next-number : naturalOf (s .number) + 1 < 2 ^ 31
@@ -91,13 +91,13 @@ module _ (s : State) (t : Lent) (out start entry : ℕ) (k : Kind) (w after : Wo
   kind-then manyPoints f = rw (is-zero, f .null-is)
   kind-then parts f = rw (is-zero, f .null-is)
 
-  box-then : (form : Form) → Flags k form → boxBy s (t .code) k (t .box) (t .xy) (t .zs) (t .ms) ≡ boxThen form s t
+  box-then : (form : Form) → Flags k form → boxBy s (t .code) k (t .box) (t .xs) (t .ys) (t .zs) (t .ms) ≡ boxThen form s t
   box-then nothing f = rw (is-zero, f .null-is)
   box-then onePoint f = rw (is-zero, f .null-is, form-several k onePoint f, p .shape .of-code .kind-is)
   box-then manyPoints f = rw (is-zero, f .null-is, form-several k manyPoints f, p .shape .of-code .kind-is)
   box-then parts f = rw (is-zero, f .null-is, form-several k parts f, p .shape .of-code .kind-is)
 
-  pub next-is : nextBy (s .number) after (kindBy s (t .code)) (boxBy s (t .code) k (t .box) (t .xy) (t .zs) (t .ms)) ≡ nextState s t
+  pub next-is : nextBy (s .number) after (kindBy s (t .code)) (boxBy s (t .code) k (t .box) (t .xs) (t .ys) (t .zs) (t .ms)) ≡ nextState s t
   unfolding nextState
   next-is =
       let form = sym (lent-form t k (p .shape .of-code)) in
@@ -120,7 +120,7 @@ module _ (s : State) (t : Lent) (out start entry : ℕ) (k : Kind) (w after : Wo
   content-bits : ofZ w32 (w .0) ≡ shapeWords (lentShape t)
   content-bits = ap (λ (v : Words). ofZ w32 (v .0)) (p .shape .words-are)
 
-  pub record-of : recordBytes k (ofZ w32 (s .number)) (shapeBy k (t .box) (t .counts) (t .xy) (t .zs) (t .ms)) ≡ recordOf s t
+  pub record-of : recordBytes k (ofZ w32 (s .number)) (shapeBy k (t .box) (t .counts) (t .xs) (t .ys) (t .zs) (t .ms)) ≡ recordOf s t
   record-of = λ i. recordBytes (sym (lent-kind t k (p .shape .of-code)) i) (number-bits i) (sym shape i)
 
   pub entry-of : twoBig (ofZ w32 (s .words .0)) (ofZ w32 (w .0)) ≡ entryOf s t

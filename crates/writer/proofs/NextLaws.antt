@@ -6,11 +6,15 @@ use lib.IntN.{pos, natAbs}
 use Rattle.format.specs.Encoding.{Box, headerBytes}
 use Rattle.header.specs.Box.{boxBits}
 use Rattle.writer.specs.declared.State.{State}
-use Rattle.writer.specs.Adding.{Lent, wordsThen, nextState}
+use Rattle.writer.specs.Adding.{Lent, lentForm, wordsThen, kindThen, boxThen, nextState}
 use Rattle.writer.specs.Boxes.{settled}
 use Rattle.writer.specs.Finishing.{shpHeader, shxHeader}
 
 module _ (s : State) (t : Lent) where
+  pub next-is : nextState s t ≡ record { words = record { 0 = pos (wordsThen s t) }; number = pos (natAbs (s .number) + 1); kind = kindThen (lentForm t) s t; bbox = boxThen (lentForm t) s t }
+  unfolding nextState
+  next-is = refl
+
   pub words-next : nextState s t .words .0 ≡ pos (wordsThen s t)
   unfolding nextState
   words-next = refl

@@ -57,15 +57,15 @@ fits-by false b m e = absurd (let z : _≡_ {A = ℕ} 0 1 = cc in omega arith)
 -- ---- the tests of a shape
 
 module _ (s : State) (t : Lent) (k : Kind) (o : OfCode (t .code) k) (ok : stateFine s ≡ true) (f : Formula) (fe : f ≡ formula (formBy k) (k .z) (k .m)) (out start entry : ℕ) where
-  pub refused-tables : tablesJudged k (t .counts) (t .xy) (t .zs) (t .ms) ≡ Disagree → Refused s t out start entry AddIs.Tables
+  pub refused-tables : tablesJudged k (t .counts) (t .xs) (t .ys) (t .zs) (t .ms) ≡ Disagree → Refused s t out start entry AddIs.Tables
   refused-tables h = record { refused = refl; says = rw (agree-is t k o ∙ disagree-by _ _ h) }
 
-  module _ (n : ℕ) (h : tablesJudged k (t .counts) (t .xy) (t .zs) (t .ms) ≡ Agree n) where
-    yes : agreeBy k (t .counts) (t .xy) (t .zs) (t .ms) ≡ true
-    yes = agree-by (agreeBy k (t .counts) (t .xy) (t .zs) (t .ms)) (pointsBy k (t .counts) (t .xy)) n h .0
+  module _ (n : ℕ) (h : tablesJudged k (t .counts) (t .xs) (t .ys) (t .zs) (t .ms) ≡ Agree n) where
+    yes : agreeBy k (t .counts) (t .xs) (t .ys) (t .zs) (t .ms) ≡ true
+    yes = agree-by (agreeBy k (t .counts) (t .xs) (t .ys) (t .zs) (t .ms)) (pointsBy k (t .counts) (t .xs)) n h .0
 
-    points : pointsBy k (t .counts) (t .xy) ≡ n
-    points = agree-by (agreeBy k (t .counts) (t .xy) (t .zs) (t .ms)) (pointsBy k (t .counts) (t .xy)) n h .1
+    points : pointsBy k (t .counts) (t .xs) ≡ n
+    points = agree-by (agreeBy k (t .counts) (t .xs) (t .ys) (t .zs) (t .ms)) (pointsBy k (t .counts) (t .xs)) n h .1
 
     agrees : lentAgree t ≡ true
     agrees = agree-is t k o ∙ yes
@@ -73,8 +73,8 @@ module _ (s : State) (t : Lent) (k : Kind) (o : OfCode (t .code) k) (ok : stateF
     shape-words : shapeWords (lentShape t) ≡ formulaWords f (length (t .counts)) n
     shape-words =
         ap shapeWords (shape-is t k o)
-        ∙ (words-are k (t .box) (t .counts) (t .xy) (t .zs) (t .ms) yes
-        ∙ (sym (formula-words k (t .counts) (t .xy))
+        ∙ (words-are k (t .box) (t .counts) (t .xs) (t .ys) (t .zs) (t .ms) yes
+        ∙ (sym (formula-words k (t .counts) (t .xs))
         ∙ (λ i. formulaWords (sym fe i) (length (t .counts)) (points i))))
 
     abbrev formula-content : Words
@@ -83,15 +83,15 @@ module _ (s : State) (t : Lent) (k : Kind) (o : OfCode (t .code) k) (ok : stateF
     words-is : wordsThen s t ≡ wordsWith (s .words) formula-content
     words-is = λ i. sym (words-natural s (fine s ok)) i + (4 + shape-words i)
 
-    counts-lent : countsHeld (lentKind t .parts) (t .counts) (t .xy) ≡ countsHeld (k .parts) (t .counts) (t .xy)
-    counts-lent = ap (λ (i : Kind). countsHeld (i .parts) (t .counts) (t .xy)) (lent-kind t k o)
+    counts-lent : countsHeld (lentKind t .parts) (t .counts) (t .xs) ≡ countsHeld (k .parts) (t .counts) (t .xs)
+    counts-lent = ap (λ (i : Kind). countsHeld (i .parts) (t .counts) (t .xs)) (lent-kind t k o)
 
     test : Bool
     test = ltb (length (t .counts)) (2 ^ 31) && ltb n (2 ^ 31) && ltb (wordsWith (s .words) formula-content) (2 ^ 31)
 
     held-is : heldThen s t ≡ test
     unfolding test
-    held-is = rw (counts-lent, ← counts-held k (t .box) (t .counts) (t .xy) (t .zs) (t .ms) yes, points, words-is)
+    held-is = rw (counts-lent, ← counts-held k (t .box) (t .counts) (t .xs) (t .ys) (t .zs) (t .ms) yes, points, words-is)
 
     pub refused-long : lengthJudged (s .words) f (length (t .counts)) n ≡ Long → Refused s t out start entry AddIs.Long
     unfolding test

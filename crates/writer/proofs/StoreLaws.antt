@@ -56,10 +56,11 @@ tail-stored a xs ys vs h =
 pub two-put : (out l m : List ℕ) (a b : ℤ) → SFits w32 a → SFits w32 b → l ≡ sets out 0 (i32Be (toZ w32 (ofZ w32 a))) → m ≡ sets l 4 (i32Be (toZ w32 (ofZ w32 b))) → m ≡ sets out 0 (twoBig (ofZ w32 a) (ofZ w32 b))
 two-put out l m a b f g p q = two-stored out l m a b (rw (toZ-ofZ w32 a f) at p) (rw (toZ-ofZ w32 b g) at q)
 
-pub point-stored : (out l m r : List ℕ) (xy zs ms : List Float) → length xy ≡ 2 → l ≡ sets out 0 (f64sLe xy) → m ≡ sets l 16 (f64sLe zs) → r ≡ sets m (16 + 8 * length zs) (f64sLe ms) → r ≡ sets out 0 (f64sLe xy ++ (f64sLe zs ++ f64sLe ms))
-point-stored out l m r xy zs ms h e f g =
-    onto out l r (f64sLe xy) (f64sLe zs ++ f64sLe ms) 0 16 (omega (arith, length-f64sLe xy)) e
-    (onto l m r (f64sLe zs) (f64sLe ms) 16 (16 + 8 * length zs) (omega (arith, length-f64sLe zs)) f g)
+pub point-stored : (out l1 l2 l3 l4 : List ℕ) (xs ys zs ms : List Float) → length xs ≡ 1 → length ys ≡ 1 → l1 ≡ sets out 0 (f64sLe xs) → l2 ≡ sets l1 8 (f64sLe ys) → l3 ≡ sets l2 16 (f64sLe zs) → l4 ≡ sets l3 (16 + 8 * length zs) (f64sLe ms) → l4 ≡ sets out 0 (f64sLe xs ++ (f64sLe ys ++ (f64sLe zs ++ f64sLe ms)))
+point-stored out l1 l2 l3 l4 xs ys zs ms x y e1 e2 e3 e4 =
+    onto out l1 l4 (f64sLe xs) _ 0 8 (omega (arith, length-f64sLe xs)) e1
+    (onto l1 l2 l4 (f64sLe ys) _ 8 16 (omega (arith, length-f64sLe ys)) e2
+    (onto l2 l3 l4 (f64sLe zs) _ 16 (16 + 8 * length zs) (omega (arith, length-f64sLe zs)) e3 e4))
 
 pub record-stored : (out l m r : List ℕ) (a b c : ℕ) (body : List ℕ) → l ≡ sets out 0 (twoBig a b) → m ≡ sets l 8 (little c) → r ≡ sets m 12 body → r ≡ sets out 0 (twoBig a b ++ (little c ++ body))
 record-stored out l m r a b c body e f g =

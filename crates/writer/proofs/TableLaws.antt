@@ -2,8 +2,8 @@
 use mathlib.Core.Path.{_≡_, refl, sym, ap, _∙_}
 use mathlib.Core.Bool.{Bool, true, false, cond, _&&_, _||_}
 use mathlib.Core.List.{List}
-use Prim.Native.Nat.{ℕ, _+_, _*_, _/_, _≤_, min}
-use native.Mathlib.Nat.{min-eq-left, min-eq-right, min-le-right}
+use Prim.Native.Nat.{ℕ, _+_, _≤_, min}
+use native.Mathlib.Nat.{min-eq-left, min-eq-right}
 use native.Mathlib.Omega.{arith}
 use lib.Dec.{eqb, leb}
 use lib.Ieee.{Float}
@@ -15,40 +15,30 @@ use Rattle.format.specs.Shapes.{sum}
 use Rattle.writer.specs.declared.judge.TablesJudged.the-variants.{Agree, Disagree}
 use Rattle.writer.specs.Judging.{single, pointsBy, pointsWithin, tablesJudged}
 
--- with p for whether there are parts, s for the sum of the counts, l for how many there are and o for the points without parts
+-- with p for whether there are parts, s for the sum of the counts, l for how many there are, o for the points without parts and most for the x
 module _ (s l o most n : ℕ) where
-  by-sum : (b : Bool) → leb s most ≡ b → n ≡ min s (most + 1) → 2 * n ≡ most → n ≡ s
+  by-sum : (b : Bool) → leb s most ≡ b → n ≡ min s (most + 1) → most ≡ n → n ≡ s
   by-sum true e h k = let a : s ≤ most + 1 = omega (arith, leb-true s most e) in h ∙ min-eq-left a
   by-sum false e h k = let a : most + 1 ≤ s = omega (arith, leb-false s most e) in absurd (let q : n ≡ most + 1 = h ∙ min-eq-right a in omega arith)
 
-  by-none : (b : Bool) → n ≡ cond b o (most + 1) → 2 * n ≡ most → (b ≡ true) × (n ≡ o)
+  by-none : (b : Bool) → n ≡ cond b o (most + 1) → most ≡ n → (b ≡ true) × (n ≡ o)
   by-none true h k = (refl, h)
   by-none false h k = absurd (omega arith)
 
-  points-are : (p : Bool) → n ≡ cond p (min s (most + 1)) (cond (eqb l 0) o (most + 1)) → 2 * n ≡ most → (p || eqb l 0 ≡ true) × (n ≡ cond p s o)
+  points-are : (p : Bool) → n ≡ cond p (min s (most + 1)) (cond (eqb l 0) o (most + 1)) → most ≡ n → (p || eqb l 0 ≡ true) × (n ≡ cond p s o)
   points-are true h k = (refl, by-sum (leb s most) refl h k)
   points-are false h k = by-none (eqb l 0) h k
 
-  no-sum : n ≡ min s (most + 1) → (2 * n ≡ most → ⊥) → most ≡ 2 * s → ⊥
-  no-sum h k e = let a : s ≤ most + 1 = omega arith in k (let q : n ≡ s = h ∙ min-eq-left a in omega arith)
+  no-sum : n ≡ min s (most + 1) → (most ≡ n → ⊥) → most ≡ s → ⊥
+  no-sum h k e = let a : s ≤ most + 1 = omega arith in k (e ∙ sym (h ∙ min-eq-left a))
 
-  no-one : (b : Bool) → n ≡ cond b o (most + 1) → (2 * n ≡ most → ⊥) → b && eqb most (2 * o) ≡ false
-  no-one true h k = ne-eqb most (2 * o) (λ e. k (omega arith))
+  no-one : (b : Bool) → n ≡ cond b o (most + 1) → (most ≡ n → ⊥) → b && eqb most o ≡ false
+  no-one true h k = ne-eqb most o (λ e. k (e ∙ sym h))
   no-one false h k = refl
 
-  not-points : (p : Bool) → n ≡ cond p (min s (most + 1)) (cond (eqb l 0) o (most + 1)) → (2 * n ≡ most → ⊥) → (p || eqb l 0) && eqb most (2 * cond p s o) ≡ false
-  not-points true h k = ne-eqb most (2 * s) (no-sum h k)
+  not-points : (p : Bool) → n ≡ cond p (min s (most + 1)) (cond (eqb l 0) o (most + 1)) → (most ≡ n → ⊥) → (p || eqb l 0) && eqb most (cond p s o) ≡ false
+  not-points true h k = ne-eqb most s (no-sum h k)
   not-points false h k = no-one (eqb l 0) h k
-
-most-by : (p b m z : Bool) (s most : ℕ) → cond p (min s (most + 1)) (cond b (cond m (most / 2) (cond z 0 1)) (most + 1)) ≤ most + 1
-most-by true b m z s most = min-le-right s (most + 1)
-most-by false true true z s most = omega arith
-most-by false true false true s most = omega arith
-most-by false true false false s most = omega arith
-most-by false false m z s most = omega arith
-
-pub points-most : (k : Kind) (counts : List ℕ) (most : ℕ) → pointsWithin k counts most ≤ most + 1
-points-most k counts most = most-by (k .parts) (eqb (length counts) 0) (isMultipoint k) (eqb (k .code) 0) (sum counts) most
 
 -- a kind without parts may be a multipoint
 pub alone : (k : Kind) (r : Bool) → r ≡ hasSeveral k → k .parts ≡ false → isMultipoint k ≡ r
@@ -59,40 +49,47 @@ by-several true m s h o = refl
 by-several false m s h o = refl
 
 -- the answers, by the number of points that the code has
-module _ (k : Kind) (counts : List ℕ) (xy zs ms : List Float) (n : ℕ) (e : n ≡ pointsWithin k counts (length xy)) where
+module _ (k : Kind) (counts : List ℕ) (xs ys zs ms : List Float) (n : ℕ) (e : n ≡ pointsWithin k counts (length xs)) where
   abbrev one : ℕ
-  one = cond (isMultipoint k) (length xy / 2) (single k)
+  one = cond (isMultipoint k) (length xs) (single k)
 
-  points-by : cond (k .parts) (sum counts) one ≡ pointsBy k counts xy
-  points-by = by-several (k .parts) (isMultipoint k) (sum counts) (length xy / 2) (single k)
+  points-by : cond (k .parts) (sum counts) one ≡ pointsBy k counts xs
+  points-by = by-several (k .parts) (isMultipoint k) (sum counts) (length xs) (single k)
 
-  pub no-points : (2 * n ≡ length xy → ⊥) → Disagree ≡ tablesJudged k counts xy zs ms
-  no-points h = rw (← points-by, not-points (sum counts) (length counts) one (length xy) n (k .parts) e h)
+  pub no-x : (length xs ≡ n → ⊥) → Disagree ≡ tablesJudged k counts xs ys zs ms
+  no-x h = rw (← points-by, not-points (sum counts) (length counts) one (length xs) n (k .parts) e h)
 
-  module _ (h : 2 * n ≡ length xy) where
-    are : (k .parts || eqb (length counts) 0 ≡ true) × (n ≡ pointsBy k counts xy)
-    are = let p = points-are (sum counts) (length counts) one (length xy) n (k .parts) e h in (p .0, p .1 ∙ points-by)
+  module _ (x : length xs ≡ n) where
+    are : (k .parts || eqb (length counts) 0 ≡ true) × (n ≡ pointsBy k counts xs)
+    are = let p = points-are (sum counts) (length counts) one (length xs) n (k .parts) e x in (p .0, p .1 ∙ points-by)
 
-    has-xy : eqb (length xy) (2 * pointsBy k counts xy) ≡ true
-    has-xy = eq-eqb _ _ (sym h ∙ ap (λ (m : ℕ). 2 * m) (are .1))
+    has-x : eqb (length xs) (pointsBy k counts xs) ≡ true
+    has-x = eq-eqb _ _ (x ∙ are .1)
+
+    pub no-y : (length ys ≡ n → ⊥) → Disagree ≡ tablesJudged k counts xs ys zs ms
+    no-y h = rw (are .0, has-x, ne-eqb _ _ (λ q. h (q ∙ sym (are .1))))
 
     -- a table of values has as many as the code expects
-    expected : (flag : Bool) (w : ℕ) → w ≡ cond flag n 0 → w ≡ cond flag (pointsBy k counts xy) 0
+    expected : (flag : Bool) (w : ℕ) → w ≡ cond flag n 0 → w ≡ cond flag (pointsBy k counts xs) 0
     expected flag w i = i ∙ ap (λ (m : ℕ). cond flag m 0) (are .1)
 
-    values : (flag : Bool) (vs : List Float) (w : ℕ) → w ≡ cond flag n 0 → length vs ≡ w → eqb (length vs) (cond flag (pointsBy k counts xy) 0) ≡ true
+    values : (flag : Bool) (vs : List Float) (w : ℕ) → w ≡ cond flag n 0 → length vs ≡ w → eqb (length vs) (cond flag (pointsBy k counts xs) 0) ≡ true
     values flag vs w i j = eq-eqb _ _ (j ∙ expected flag w i)
 
-    no-values : (flag : Bool) (vs : List Float) (w : ℕ) → w ≡ cond flag n 0 → (length vs ≡ w → ⊥) → eqb (length vs) (cond flag (pointsBy k counts xy) 0) ≡ false
+    no-values : (flag : Bool) (vs : List Float) (w : ℕ) → w ≡ cond flag n 0 → (length vs ≡ w → ⊥) → eqb (length vs) (cond flag (pointsBy k counts xs) 0) ≡ false
     no-values flag vs w i j = ne-eqb _ _ (λ q. j (q ∙ sym (expected flag w i)))
 
-    module _ (w : ℕ) (i : w ≡ cond (k .z) n 0) where
-      pub no-z : (length zs ≡ w → ⊥) → Disagree ≡ tablesJudged k counts xy zs ms
-      no-z j = rw (are .0, has-xy, no-values (k .z) zs w i j)
+    module _ (y : length ys ≡ n) where
+      has-y : eqb (length ys) (pointsBy k counts xs) ≡ true
+      has-y = eq-eqb _ _ (y ∙ are .1)
 
-      module _ (j : length zs ≡ w) (v : ℕ) (o : v ≡ cond (k .m) n 0) where
-        pub no-m : (length ms ≡ v → ⊥) → Disagree ≡ tablesJudged k counts xy zs ms
-        no-m q = rw (are .0, has-xy, values (k .z) zs w i j, no-values (k .m) ms v o q)
+      module _ (w : ℕ) (i : w ≡ cond (k .z) n 0) where
+        pub no-z : (length zs ≡ w → ⊥) → Disagree ≡ tablesJudged k counts xs ys zs ms
+        no-z j = rw (are .0, has-x, has-y, no-values (k .z) zs w i j)
 
-        pub all-agree : length ms ≡ v → Agree n ≡ tablesJudged k counts xy zs ms
-        all-agree q = rw (are .0, has-xy, values (k .z) zs w i j, values (k .m) ms v o q) (ap Agree (are .1))
+        module _ (j : length zs ≡ w) (v : ℕ) (o : v ≡ cond (k .m) n 0) where
+          pub no-m : (length ms ≡ v → ⊥) → Disagree ≡ tablesJudged k counts xs ys zs ms
+          no-m q = rw (are .0, has-x, has-y, values (k .z) zs w i j, no-values (k .m) ms v o q)
+
+          pub all-agree : length ms ≡ v → Agree n ≡ tablesJudged k counts xs ys zs ms
+          all-agree q = rw (are .0, has-x, has-y, values (k .z) zs w i j, values (k .m) ms v o q) (ap Agree (are .1))

@@ -32,12 +32,13 @@ pub record Lent : Type 0 where
   pub code : ℤ
   pub box : BBoxZ
   pub counts : List ℕ
-  pub xy : List Float
+  pub xs : List Float
+  pub ys : List Float
   pub zs : List Float
   pub ms : List Float
 
-abbrev pub lent : ℤ → BBoxZ → List ℕ → List Float → List Float → List Float → Lent
-lent code b counts xy zs ms = record { code = code; box = b; counts = counts; xy = xy; zs = zs; ms = ms }
+abbrev pub lent : ℤ → BBoxZ → List ℕ → List Float → List Float → List Float → List Float → Lent
+lent code b counts xs ys zs ms = record { code = code; box = b; counts = counts; xs = xs; ys = ys; zs = zs; ms = ms }
 
 -- the form, and the kind of the code; what is not in the table is refused before either is used
 abbrev pub formOr : Option Form → Form
@@ -57,8 +58,8 @@ valueOf false values = none
 valueOf true [] = none
 valueOf true (x ∷ values) = some (bits x)
 
-abbrev pub pointShape : Kind → List Float → List Float → List Float → Shape
-pointShape k xy zs ms = made (pointsOf xy)
+abbrev pub pointShape : Kind → List Float → List Float → List Float → List Float → Shape
+pointShape k xs ys zs ms = made (pointsOf xs ys)
   where
     made : List Rattle.format.specs.Shapes.Point → Shape
     made [] = null
@@ -70,20 +71,25 @@ lentShape t = made (lentForm t)
   where
     made : Form → Shape
     made nothing = null
-    made onePoint = pointShape (lentKind t) (t .xy) (t .zs) (t .ms)
-    made manyPoints = multipoint (multipointOf (lentKind t .z) (lentKind t .m) (t .box) (t .xy) (t .zs) (t .ms))
-    made parts = parted (partsOf (lentKind t .z) (lentKind t .m) (t .box) (t .counts) (t .xy) (t .zs) (t .ms))
+    made onePoint = pointShape (lentKind t) (t .xs) (t .ys) (t .zs) (t .ms)
+    made manyPoints = multipoint (multipointOf (lentKind t .z) (lentKind t .m) (t .box) (t .xs) (t .ys) (t .zs) (t .ms))
+    made parts = parted (partsOf (lentKind t .z) (lentKind t .m) (t .box) (t .counts) (t .xs) (t .ys) (t .zs) (t .ms))
 
 -- ---- the tests
 
 -- a point kind has no parts and n = 1
 abbrev pub pointAgrees : Kind → Lent → Bool
 pointAgrees k t =
-    eqb (length (t .counts)) 0 && eqb (length (t .xy)) 2 && eqb (length (t .zs)) (cond (k .z) 1 0) && eqb (length (t .ms)) (cond (k .m) 1 0)
+    eqb (length (t .counts)) 0
+    && eqb (length (t .xs)) 1
+    && eqb (length (t .ys)) 1
+    && eqb (length (t .zs)) (cond (k .z) 1 0)
+    && eqb (length (t .ms)) (cond (k .m) 1 0)
 
 -- a Null record has no table that is not empty
 abbrev pub nullAgrees : Lent → Bool
-nullAgrees t = eqb (length (t .counts)) 0 && eqb (length (t .xy)) 0 && eqb (length (t .zs)) 0 && eqb (length (t .ms)) 0
+nullAgrees t =
+    eqb (length (t .counts)) 0 && eqb (length (t .xs)) 0 && eqb (length (t .ys)) 0 && eqb (length (t .zs)) 0 && eqb (length (t .ms)) 0
 
 abbrev pub lentAgree : Lent → Bool
 lentAgree t = by-form (lentForm t)
@@ -91,8 +97,8 @@ lentAgree t = by-form (lentForm t)
     by-form : Form → Bool
     by-form nothing = nullAgrees t
     by-form onePoint = pointAgrees (lentKind t) t
-    by-form manyPoints = agree false (lentKind t .z) (lentKind t .m) (t .counts) (t .xy) (t .zs) (t .ms)
-    by-form parts = agree true (lentKind t .z) (lentKind t .m) (t .counts) (t .xy) (t .zs) (t .ms)
+    by-form manyPoints = agree false (lentKind t .z) (lentKind t .m) (t .counts) (t .xs) (t .ys) (t .zs) (t .ms)
+    by-form parts = agree true (lentKind t .z) (lentKind t .m) (t .counts) (t .xs) (t .ys) (t .zs) (t .ms)
 
 -- the words of the file with the record
 abbrev pub wordsThen : State → Lent → ℕ
@@ -100,7 +106,7 @@ wordsThen s t = natAbs (s .words .0) + (4 + shapeWords (lentShape t))
 
 -- an i32 holds the counts and the file's words
 abbrev pub heldThen : State → Lent → Bool
-heldThen s t = countsHeld (lentKind t .parts) (t .counts) (t .xy) && ltb (wordsThen s t) (2 ^ 31)
+heldThen s t = countsHeld (lentKind t .parts) (t .counts) (t .xs) && ltb (wordsThen s t) (2 ^ 31)
 
 -- the bytes of the record, and those that its buffer has to have: at most the largest usize
 abbrev pub recordSize : Lent → ℕ
@@ -151,7 +157,7 @@ kindThen parts s t = t .code
 
 abbrev pub boxThen : Form → State → Lent → BBoxZ
 boxThen nothing s t = s .bbox
-boxThen onePoint s t = grown (flat (lentKind t) (pointBox (t .xy) (t .zs) (t .ms))) (heldBox s)
+boxThen onePoint s t = grown (flat (lentKind t) (pointBox (t .xs) (t .ys) (t .zs) (t .ms))) (heldBox s)
 boxThen manyPoints s t = grown (flat (lentKind t) (t .box)) (heldBox s)
 boxThen parts s t = grown (flat (lentKind t) (t .box)) (heldBox s)
 

@@ -70,13 +70,13 @@ flat k b =
     }
 
 -- a point's own values as a box
-abbrev pub pointBox : List Float → List Float → List Float → BBoxZ
-pointBox xy zs ms =
+abbrev pub pointBox : List Float → List Float → List Float → List Float → BBoxZ
+pointBox xs ys zs ms =
     record {
-      xmin = getD xy 0 zeroDouble;
-      ymin = getD xy 1 zeroDouble;
-      xmax = getD xy 0 zeroDouble;
-      ymax = getD xy 1 zeroDouble;
+      xmin = getD xs 0 zeroDouble;
+      ymin = getD ys 0 zeroDouble;
+      xmax = getD xs 0 zeroDouble;
+      ymax = getD ys 0 zeroDouble;
       zmin = getD zs 0 zeroDouble;
       zmax = getD zs 0 zeroDouble;
       mmin = getD ms 0 zeroDouble;

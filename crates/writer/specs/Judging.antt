@@ -3,7 +3,7 @@ use mathlib.Core.Path.{_≡_}
 use mathlib.Core.Bool.{Bool, true, false, cond, _&&_, _||_, not}
 use mathlib.Core.List.{List, _++_}
 use mathlib.Core.Option.{Option, none, some}
-use Prim.Native.Nat.{ℕ, _+_, _*_, _-_, _/_, _^_, _≤_, _<_, min}
+use Prim.Native.Nat.{ℕ, _+_, _*_, _-_, _^_, _≤_, _<_, min}
 use lib.Dec.{leb, ltb, eqb}
 use lib.Ieee.{Float}
 use lib.IntN.{ℤ, pos, negsuc, natAbs, _+ℤ_}
@@ -98,27 +98,28 @@ abbrev pub single : Kind → ℕ
 single k = cond (eqb (k .code) 0) 0 1
 
 abbrev pub pointsBy : Kind → List ℕ → List Float → ℕ
-pointsBy k counts xy = cond (hasSeveral k) (pointsLent (k .parts) counts xy) (single k)
+pointsBy k counts xs = cond (hasSeveral k) (pointsLent (k .parts) counts xs) (single k)
 
--- the same, for so many doubles of xy; more than those, where the counts sum to more or are no such shape's
+-- the same, for so many x; more than those, where the counts sum to more or are no such shape's
 abbrev pub pointsWithin : Kind → List ℕ → ℕ → ℕ
-pointsWithin k counts xy =
-    cond (k .parts) (min (sum counts) (xy + 1)) (cond (eqb (length counts) 0) (cond (isMultipoint k) (xy / 2) (single k)) (xy + 1))
+pointsWithin k counts xs =
+    cond (k .parts) (min (sum counts) (xs + 1)) (cond (eqb (length counts) 0) (cond (isMultipoint k) xs (single k)) (xs + 1))
 
-abbrev pub agreeBy : Kind → List ℕ → List Float → List Float → List Float → Bool
-agreeBy k counts xy zs ms =
+abbrev pub agreeBy : Kind → List ℕ → List Float → List Float → List Float → List Float → Bool
+agreeBy k counts xs ys zs ms =
     (k .parts || eqb (length counts) 0)
-    && eqb (length xy) (2 * pointsBy k counts xy)
-    && eqb (length zs) (cond (k .z) (pointsBy k counts xy) 0)
-    && eqb (length ms) (cond (k .m) (pointsBy k counts xy) 0)
+    && eqb (length xs) (pointsBy k counts xs)
+    && eqb (length ys) (pointsBy k counts xs)
+    && eqb (length zs) (cond (k .z) (pointsBy k counts xs) 0)
+    && eqb (length ms) (cond (k .m) (pointsBy k counts xs) 0)
 
-abbrev pub shapeBy : Kind → BBoxZ → List ℕ → List Float → List Float → List Float → Shape
-shapeBy k b counts xy zs ms =
-    cond (hasSeveral k) (severalOf (k .parts) (k .z) (k .m) b counts xy zs ms)
-    (cond (eqb (k .code) 0) null (pointShape k xy zs ms))
+abbrev pub shapeBy : Kind → BBoxZ → List ℕ → List Float → List Float → List Float → List Float → Shape
+shapeBy k b counts xs ys zs ms =
+    cond (hasSeveral k) (severalOf (k .parts) (k .z) (k .m) b counts xs ys zs ms)
+    (cond (eqb (k .code) 0) null (pointShape k xs ys zs ms))
 
 abbrev pub wordsBy : Kind → List ℕ → List Float → ℕ
-wordsBy k counts xy = contentWords (formBy k) (k .z) (k .m) (length counts) (pointsBy k counts xy)
+wordsBy k counts xs = contentWords (formBy k) (k .z) (k .m) (length counts) (pointsBy k counts xs)
 
 -- ---- the judges
 
@@ -151,8 +152,8 @@ abbrev pub JudgesKind : State → ℤ → KindJudged → Type 0
 JudgesKind s code (KindIs.Fine k f) = KindFine s code k f
 JudgesKind s code (KindIs.Refused a) = KindRefused s code a
 
-abbrev pub tablesJudged : Kind → List ℕ → List Float → List Float → List Float → TablesJudged
-tablesJudged k counts xy zs ms = cond (agreeBy k counts xy zs ms) (Agree (pointsBy k counts xy)) Disagree
+abbrev pub tablesJudged : Kind → List ℕ → List Float → List Float → List Float → List Float → TablesJudged
+tablesJudged k counts xs ys zs ms = cond (agreeBy k counts xs ys zs ms) (Agree (pointsBy k counts xs)) Disagree
 
 abbrev pub lengthJudged : Words → Formula → ℕ → ℕ → LengthJudged
 lengthJudged words f p n =
@@ -164,8 +165,8 @@ roomJudged size out start entry = cond (leb (start + size) out) (cond (leb 8 ent
 
 pub record Passed (s : State) (t : Lent) (out start entry : ℕ) (k : Kind) (w after : Words) (size : Bytes) : Type 0 where
   pub of-code : OfCode (t .code) k
-  pub agrees : agreeBy k (t .counts) (t .xy) (t .zs) (t .ms) ≡ true
-  pub counts-held : countsHeld (k .parts) (t .counts) (t .xy) ≡ true
+  pub agrees : agreeBy k (t .counts) (t .xs) (t .ys) (t .zs) (t .ms) ≡ true
+  pub counts-held : countsHeld (k .parts) (t .counts) (t .xs) ≡ true
   pub held : wordsThen s t < 2 ^ 31
   pub words-are : w ≡ wordsOf (shapeWords (lentShape t))
   pub after-is : after ≡ wordsOf (wordsThen s t)
@@ -198,21 +199,21 @@ Judges s t out start entry (JudgedIs.Refused a) = AllRefused s t out start entry
 -- ---- the writing, and the next state
 
 -- what the body's writer asks: the tables agree, an i32 holds the counts, and there is room
-pub record Ready (k : Kind) (counts : List ℕ) (xy zs ms : List Float) (bytes : ℕ) : Type 0 where
-  pub agrees : agreeBy k counts xy zs ms ≡ true
-  pub counts-held : countsHeld (k .parts) counts xy ≡ true
-  pub room : 2 * wordsBy k counts xy ≤ 4 + bytes
+pub record Ready (k : Kind) (counts : List ℕ) (xs ys zs ms : List Float) (bytes : ℕ) : Type 0 where
+  pub agrees : agreeBy k counts xs ys zs ms ≡ true
+  pub counts-held : countsHeld (k .parts) counts xs ≡ true
+  pub room : 2 * wordsBy k counts xs ≤ 4 + bytes
 
 -- the kind behind the record
 abbrev pub kindBy : State → ℤ → ℤ
 kindBy s code = cond (isZero code) (s .kind) code
 
 -- the box that a record other than Null gives to the header, and the header's box behind the record
-abbrev pub ownBy : Kind → BBoxZ → List Float → List Float → List Float → BBoxZ
-ownBy k b xy zs ms = flat k (cond (hasSeveral k) b (pointBox xy zs ms))
+abbrev pub ownBy : Kind → BBoxZ → List Float → List Float → List Float → List Float → BBoxZ
+ownBy k b xs ys zs ms = flat k (cond (hasSeveral k) b (pointBox xs ys zs ms))
 
-abbrev pub boxBy : State → ℤ → Kind → BBoxZ → List Float → List Float → List Float → BBoxZ
-boxBy s code k b xy zs ms = cond (isZero code) (s .bbox) (grown (ownBy k b xy zs ms) (heldBox s))
+abbrev pub boxBy : State → ℤ → Kind → BBoxZ → List Float → List Float → List Float → List Float → BBoxZ
+boxBy s code k b xs ys zs ms = cond (isZero code) (s .bbox) (grown (ownBy k b xs ys zs ms) (heldBox s))
 
 abbrev pub nextBy : ℤ → Words → ℤ → BBoxZ → State
 nextBy number after kind b = record { words = after; number = pos (naturalOf number + 1); kind = kind; bbox = b }

@@ -83,11 +83,11 @@ fn at_or_zero(s: &[f64], i: usize) -> f64
 }
 
 // A point's own values as a box.
-pub(crate) fn point_box(xy: &[f64], zs: &[f64], ms: &[f64]) -> BBoxZ
-    ensures { λ r. ⌜ r ≡ pointBox (now (xy .entry)) (now (zs .entry)) (now (ms .entry)) ⌝ }
+pub(crate) fn point_box(xs: &[f64], ys: &[f64], zs: &[f64], ms: &[f64]) -> BBoxZ
+    ensures { λ r. ⌜ r ≡ pointBox (now (xs .entry)) (now (ys .entry)) (now (zs .entry)) (now (ms .entry)) ⌝ }
 {
-    let x = at_or_zero(xy, 0);
-    let y = at_or_zero(xy, 1);
+    let x = at_or_zero(xs, 0);
+    let y = at_or_zero(ys, 0);
     let z = at_or_zero(zs, 0);
     let m = at_or_zero(ms, 0);
     BBoxZ {

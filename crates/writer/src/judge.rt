@@ -95,20 +95,20 @@ fn summed(counts: &[u32], most: usize) -> usize
     total
 }
 
-// The points of the shape, for so many doubles of xy: without parts a multipoint has one for each pair, a Null none and a point kind one. More than
-// there are doubles, where the counts are no such shape's.
-fn points(k: Kind, counts: &[u32], xy: usize) -> usize
-    requires { ⌜ xy < 2 ^ 62 ⌝ }
-    ensures { λ r. ⌜ r ≡ pointsWithin k (now (counts .entry)) xy ⌝ }
+// The points of the shape, for so many x: without parts a multipoint has one for each, a Null none and a point kind one. More than there are x,
+// where the counts are no such shape's.
+fn points(k: Kind, counts: &[u32], xs: usize) -> usize
+    requires { ⌜ xs < 2 ^ 62 ⌝ }
+    ensures { λ r. ⌜ r ≡ pointsWithin k (now (counts .entry)) xs ⌝ }
 {
     if k.parts {
-        return summed(counts, xy);
+        return summed(counts, xs);
     }
     if counts.len() != 0 {
-        return xy + 1;
+        return xs + 1;
     }
     if format::lengths::has_several(k) {
-        return xy / 2;
+        return xs;
     }
     if k.code == 0 { 0 } else { 1 }
 }
@@ -121,11 +121,21 @@ fn where_set(flag: bool, n: usize) -> usize
 }
 
 // The tables agree in length: 10.
-fn judge_tables(k: Kind, counts: &[u32], xy: &[f64], zs: &[f64], ms: &[f64]) -> TablesJudged
-    ensures { λ r. ⌜ r ≡ tablesJudged k (now (counts .entry)) (now (xy .entry)) (now (zs .entry)) (now (ms .entry)) ⌝ }
+fn judge_tables(
+    k: Kind,
+    counts: &[u32],
+    xs: &[f64],
+    ys: &[f64],
+    zs: &[f64],
+    ms: &[f64],
+) -> TablesJudged
+    ensures { λ r. ⌜ r ≡ tablesJudged k (now (counts .entry)) (now (xs .entry)) (now (ys .entry)) (now (zs .entry)) (now (ms .entry)) ⌝ }
 {
-    let n = points(k, counts, xy.len());
-    if 2 * n != xy.len() {
+    let n = points(k, counts, xs.len());
+    if xs.len() != n {
+        return TablesJudged::Disagree;
+    }
+    if ys.len() != n {
         return TablesJudged::Disagree;
     }
     if zs.len() != where_set(k.z, n) {
@@ -209,7 +219,8 @@ fn judge_shape(
     k: Kind,
     f: Formula,
     counts: &[u32],
-    xy: &[f64],
+    xs: &[f64],
+    ys: &[f64],
     zs: &[f64],
     ms: &[f64],
     out: usize,
@@ -219,9 +230,9 @@ fn judge_shape(
     requires { ⌜ stateFine state ≡ true ⌝ }
     requires { ⌜ OfCode code k ⌝ }
     requires { ⌜ f ≡ formula (formBy k) (k .z) (k .m) ⌝ }
-    ensures { λ r. ⌜ ((b : BBoxZ) → JudgesShape state (lent code b (now (counts .entry)) (now (xy .entry)) (now (zs .entry)) (now (ms .entry))) out start entry r) ⌝ }
+    ensures { λ r. ⌜ ((b : BBoxZ) → JudgesShape state (lent code b (now (counts .entry)) (now (xs .entry)) (now (ys .entry)) (now (zs .entry)) (now (ms .entry))) out start entry r) ⌝ }
 {
-    let TablesJudged::Agree(n) = judge_tables(k, counts, xy, zs, ms) else {
+    let TablesJudged::Agree(n) = judge_tables(k, counts, xs, ys, zs, ms) else {
         return Judged::Refused(AddAnswer::Tables);
     };
     let words = state.words;
@@ -240,14 +251,15 @@ pub(crate) fn judge(
     state: State,
     code: i32,
     counts: &[u32],
-    xy: &[f64],
+    xs: &[f64],
+    ys: &[f64],
     zs: &[f64],
     ms: &[f64],
     out: usize,
     start: usize,
     entry: usize,
 ) -> Judged
-    ensures { λ r. ⌜ ((b : BBoxZ) → Judges state (lent code b (now (counts .entry)) (now (xy .entry)) (now (zs .entry)) (now (ms .entry))) out start entry r) ⌝ }
+    ensures { λ r. ⌜ ((b : BBoxZ) → Judges state (lent code b (now (counts .entry)) (now (xs .entry)) (now (ys .entry)) (now (zs .entry)) (now (ms .entry))) out start entry r) ⌝ }
 {
     match judge_kind(state, code) {
         KindJudged::Refused(answer) => Judged::Refused(answer),
@@ -257,7 +269,8 @@ pub(crate) fn judge(
             k,
             f,
             counts,
-            xy,
+            xs,
+            ys,
             zs,
             ms,
             out,

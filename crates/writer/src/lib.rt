@@ -92,25 +92,38 @@ pub fn add_record(
     code: i32,
     bbox: BBoxZ,
     counts: &[u32],
-    xy: &[f64],
+    xs: &[f64],
+    ys: &[f64],
     zs: &[f64],
     ms: &[f64],
     out: &mut [u8],
     start: usize,
     entry: &mut [u8],
 ) -> Adding
-    ensures { λ r. ⌜ Adds state (lent code bbox (now (counts .entry)) (now (xy .entry)) (now (zs .entry)) (now (ms .entry))) (now (out .entry)) start (now (entry .entry)) r (now (out .exit)) (now (entry .exit)) ⌝ }
+    ensures { λ r. ⌜ Adds state (lent code bbox (now (counts .entry)) (now (xs .entry)) (now (ys .entry)) (now (zs .entry)) (now (ms .entry))) (now (out .entry)) start (now (entry .entry)) r (now (out .exit)) (now (entry .exit)) ⌝ }
 {
     let room = out.len();
     let entries = entry.len();
-    match judge::judge(state, code, counts, xy, zs, ms, room, start, entries) {
+    match judge::judge(state, code, counts, xs, ys, zs, ms, room, start, entries) {
         Judged::Refused(answer) => Adding { answer, state },
         Judged::Fine(k, w, after, size) => {
             let n = state.number;
             let words = state.words;
             let kind = record::next_kind(state, code);
-            let bounds = record::next_box(state, code, k, bbox, xy, zs, ms);
-            record::put_record(&mut out[start..], n, w, code, k, bbox, counts, xy, zs, ms);
+            let bounds = record::next_box(state, code, k, bbox, xs, ys, zs, ms);
+            record::put_record(
+                &mut out[start..],
+                n,
+                w,
+                code,
+                k,
+                bbox,
+                counts,
+                xs,
+                ys,
+                zs,
+                ms,
+            );
             record::put_entry(entry, words, w);
             Adding {
                 answer: AddAnswer::Added(judge::in_memory(size)),
@@ -126,17 +139,18 @@ pub fn write_shape(
     code: i32,
     bbox: BBoxZ,
     counts: &[u32],
-    xy: &[f64],
+    xs: &[f64],
+    ys: &[f64],
     zs: &[f64],
     ms: &[f64],
     out: &mut [u8],
     start: usize,
     entry: &mut [u8],
 ) -> AddAnswer
-    ensures { λ r. ⌜ Adds (now (state .entry)) (lent code bbox (now (counts .entry)) (now (xy .entry)) (now (zs .entry)) (now (ms .entry))) (now (out .entry)) start (now (entry .entry)) (adding r (now (state .exit))) (now (out .exit)) (now (entry .exit)) ⌝ }
+    ensures { λ r. ⌜ Adds (now (state .entry)) (lent code bbox (now (counts .entry)) (now (xs .entry)) (now (ys .entry)) (now (zs .entry)) (now (ms .entry))) (now (out .entry)) start (now (entry .entry)) (adding r (now (state .exit))) (now (out .exit)) (now (entry .exit)) ⌝ }
 {
     let s = *state;
-    let r = add_record(s, code, bbox, counts, xy, zs, ms, out, start, entry);
+    let r = add_record(s, code, bbox, counts, xs, ys, zs, ms, out, start, entry);
     *state = r.state;
     r.answer
 }

@@ -36,11 +36,12 @@ pub(crate) fn put_entry(out: &mut [u8], offset: Words, content: Words)
 }
 
 // A point's x, y, and z and m where there are any.
-fn put_point(out: &mut [u8], xy: &[f64], zs: &[f64], ms: &[f64])
-    requires { ⌜ (length (now xy) ≡ 2) × (16 + 8 * length (now zs) + 8 * length (now ms) ≤ length (now out)) ⌝ }
-    ensures { λ _. ⌜ now (out .exit) ≡ sets (now (out .entry)) 0 (f64sLe (now (xy .entry)) ++ (f64sLe (now (zs .entry)) ++ f64sLe (now (ms .entry)))) ⌝ }
+fn put_point(out: &mut [u8], xs: &[f64], ys: &[f64], zs: &[f64], ms: &[f64])
+    requires { ⌜ (length (now xs) ≡ 1) × (length (now ys) ≡ 1) × (16 + 8 * length (now zs) + 8 * length (now ms) ≤ length (now out)) ⌝ }
+    ensures { λ _. ⌜ now (out .exit) ≡ sets (now (out .entry)) 0 (f64sLe (now (xs .entry)) ++ (f64sLe (now (ys .entry)) ++ (f64sLe (now (zs .entry)) ++ f64sLe (now (ms .entry))))) ⌝ }
 {
-    fields::write_doubles(out, 0, xy);
+    fields::write_doubles(out, 0, xs);
+    fields::write_doubles(out, 8, ys);
     fields::write_doubles(out, 16, zs);
     fields::write_doubles(out, 16 + 8 * zs.len(), ms);
 }
@@ -51,22 +52,23 @@ fn put_body(
     k: Kind,
     bbox: BBoxZ,
     counts: &[u32],
-    xy: &[f64],
+    xs: &[f64],
+    ys: &[f64],
     zs: &[f64],
     ms: &[f64],
 )
-    requires { ⌜ Ready k (now counts) (now xy) (now zs) (now ms) (length (now out)) ⌝ }
-    ensures { λ _. ⌜ now (out .exit) ≡ sets (now (out .entry)) 0 (shapeBytes (shapeBy k bbox (now (counts .entry)) (now (xy .entry)) (now (zs .entry)) (now (ms .entry)))) ⌝ }
+    requires { ⌜ Ready k (now counts) (now xs) (now ys) (now zs) (now ms) (length (now out)) ⌝ }
+    ensures { λ _. ⌜ now (out .exit) ≡ sets (now (out .entry)) 0 (shapeBytes (shapeBy k bbox (now (counts .entry)) (now (xs .entry)) (now (ys .entry)) (now (zs .entry)) (now (ms .entry)))) ⌝ }
 {
     if format::lengths::has_several(k) {
-        layouts::write_body(out, k.parts, k.z, k.m, bbox, counts, xy, zs, ms);
+        layouts::write_body(out, k.parts, k.z, k.m, bbox, counts, xs, ys, zs, ms);
         return;
     }
     // a Null's content is its kind alone
     if k.code == 0 {
         return;
     }
-    put_point(out, xy, zs, ms);
+    put_point(out, xs, ys, zs, ms);
 }
 
 // The whole record at the front of the output.
@@ -78,30 +80,31 @@ pub(crate) fn put_record(
     k: Kind,
     bbox: BBoxZ,
     counts: &[u32],
-    xy: &[f64],
+    xs: &[f64],
+    ys: &[f64],
     zs: &[f64],
     ms: &[f64],
 )
-    requires { ⌜ Ready k (now counts) (now xy) (now zs) (now ms) (length (now out)) ⌝ }
-    requires { ⌜ 8 + 2 * wordsBy k (now counts) (now xy) ≤ length (now out) ⌝ }
+    requires { ⌜ Ready k (now counts) (now xs) (now ys) (now zs) (now ms) (length (now out)) ⌝ }
+    requires { ⌜ 8 + 2 * wordsBy k (now counts) (now xs) ≤ length (now out) ⌝ }
     requires { ⌜ code ≡ pos (k .code) ⌝ }
-    requires { ⌜ content ≡ wordsOf (wordsBy k (now counts) (now xy)) ⌝ }
-    ensures { λ _. ⌜ now (out .exit) ≡ sets (now (out .entry)) 0 (recordBytes k (ofZ w32 number) (shapeBy k bbox (now (counts .entry)) (now (xy .entry)) (now (zs .entry)) (now (ms .entry)))) ⌝ }
+    requires { ⌜ content ≡ wordsOf (wordsBy k (now counts) (now xs)) ⌝ }
+    ensures { λ _. ⌜ now (out .exit) ≡ sets (now (out .entry)) 0 (recordBytes k (ofZ w32 number) (shapeBy k bbox (now (counts .entry)) (now (xs .entry)) (now (ys .entry)) (now (zs .entry)) (now (ms .entry)))) ⌝ }
 {
     put_header(out, number, content);
     fields::put_le_i32(out, 8, code);
-    put_body(&mut out[12..], k, bbox, counts, xy, zs, ms);
+    put_body(&mut out[12..], k, bbox, counts, xs, ys, zs, ms);
 }
 
 // The box that a record other than Null gives to the header.
-fn own_box(k: Kind, bbox: BBoxZ, xy: &[f64], zs: &[f64], ms: &[f64]) -> BBoxZ
-    ensures { λ r. ⌜ r ≡ ownBy k bbox (now (xy .entry)) (now (zs .entry)) (now (ms .entry)) ⌝ }
+fn own_box(k: Kind, bbox: BBoxZ, xs: &[f64], ys: &[f64], zs: &[f64], ms: &[f64]) -> BBoxZ
+    ensures { λ r. ⌜ r ≡ ownBy k bbox (now (xs .entry)) (now (ys .entry)) (now (zs .entry)) (now (ms .entry)) ⌝ }
 {
     let several = format::lengths::has_several(k);
     if several {
         return crate::boxes::flat_box(k, bbox);
     }
-    crate::boxes::flat_box(k, crate::boxes::point_box(xy, zs, ms))
+    crate::boxes::flat_box(k, crate::boxes::point_box(xs, ys, zs, ms))
 }
 
 // The box that it finds.
@@ -127,16 +130,17 @@ pub(crate) fn next_box(
     code: i32,
     k: Kind,
     bbox: BBoxZ,
-    xy: &[f64],
+    xs: &[f64],
+    ys: &[f64],
     zs: &[f64],
     ms: &[f64],
 ) -> BBoxZ
-    ensures { λ r. ⌜ r ≡ boxBy state code k bbox (now (xy .entry)) (now (zs .entry)) (now (ms .entry)) ⌝ }
+    ensures { λ r. ⌜ r ≡ boxBy state code k bbox (now (xs .entry)) (now (ys .entry)) (now (zs .entry)) (now (ms .entry)) ⌝ }
 {
     if code == 0 {
         return state.bbox;
     }
-    let own = own_box(k, bbox, xy, zs, ms);
+    let own = own_box(k, bbox, xs, ys, zs, ms);
     crate::boxes::grow(own, held_box(state))
 }
 

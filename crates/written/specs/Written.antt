@@ -15,7 +15,7 @@ use Rattle.format.specs.Said.{gives}
 use Rattle.header.specs.RoundTrip.{Doubles}
 use Rattle.multipart.specs.declared.Body.{Body}
 use Rattle.multipart.specs.declared.Range.{Range}
-use Rattle.multipart.specs.Body.{noRange, raised, countsIn, xyIn, zIn, mIn}
+use Rattle.multipart.specs.Body.{noRange, raised, countsIn, xIn, yIn, zIn, mIn}
 use Rattle.layouts.specs.Tables.{pointsLent}
 use Rattle.writer.specs.declared.State.{State}
 use Rattle.writer.specs.Adding.{Lent, lentKind, lentForm, lentShape, recordOf, addingOf}
@@ -31,7 +31,8 @@ AllDoubles (x ∷ xs) = T (fits binary64 x) × AllDoubles xs
 
 pub record Typed (t : Lent) : Type 0 where
   pub box : Doubles (t .box)
-  pub xy : AllDoubles (t .xy)
+  pub xs : AllDoubles (t .xs)
+  pub ys : AllDoubles (t .ys)
   pub zs : AllDoubles (t .zs)
   pub ms : AllDoubles (t .ms)
 
@@ -47,30 +48,32 @@ bodyLent t =
       «z_range» = rangeIf (lentKind t .z) (t .box .zmin) (t .box .zmax);
       «m_range» = rangeIf (lentKind t .m) (t .box .mmin) (t .box .mmax);
       parts = length (t .counts);
-      points = pointsLent (lentKind t .parts) (t .counts) (t .xy);
+      points = pointsLent (lentKind t .parts) (t .counts) (t .xs);
     }
 
--- a table's value, and 0 where the table has none
-abbrev pub valueAt : ℕ → List Float → Float
-valueAt i values = getD values i (ofInt binary64 (pos 0))
+-- a table's first value, and 0 where the table has none
+abbrev pub firstOf : List Float → Float
+firstOf values = getD values 0 (ofInt binary64 (pos 0))
 
 abbrev pub shapedBy : Form → Lent → Shaped
 shapedBy nothing t = nullShape
-shapedBy onePoint t = pointShape (t .code) (record { x = valueAt 0 (t .xy); y = valueAt 1 (t .xy); z = valueAt 0 (t .zs); m = valueAt 0 (t .ms) })
+shapedBy onePoint t = pointShape (t .code) (record { x = firstOf (t .xs); y = firstOf (t .ys); z = firstOf (t .zs); m = firstOf (t .ms) })
 shapedBy manyPoints t = multipointShape (t .code) (lentKind t .m) (bodyLent t)
 shapedBy parts t = partsShape (t .code) (lentKind t .m) (bodyLent t)
 
 -- the stores are as long as the tables
-pub record Room (t : Lent) (counts xy zs ms : ℕ) : Type 0 where
+pub record Room (t : Lent) (counts xs ys zs ms : ℕ) : Type 0 where
   pub for-counts : length (t .counts) ≤ counts
-  pub for-xy : length (t .xy) ≤ xy
+  pub for-xs : length (t .xs) ≤ xs
+  pub for-ys : length (t .ys) ≤ ys
   pub for-zs : length (t .zs) ≤ zs
   pub for-ms : length (t .ms) ≤ ms
 
 -- what the stores get, by the content
 pub record TablesIn (t : Lent) (content : List ℕ) : Type 0 where
   pub counts-back : countsIn (lentKind t .parts) (drop 4 content) ≡ t .counts
-  pub xy-back : xyIn (lentKind t .parts) (drop 4 content) ≡ t .xy
+  pub xs-back : xIn (lentKind t .parts) (drop 4 content) ≡ t .xs
+  pub ys-back : yIn (lentKind t .parts) (drop 4 content) ≡ t .ys
   pub zs-back : zIn (lentKind t .parts) (lentKind t .z) (drop 4 content) ≡ t .zs
   pub ms-back : mIn (lentKind t .parts) (lentKind t .z) (lentKind t .m) (drop 4 content) ≡ map raised (t .ms)
 
@@ -82,8 +85,8 @@ written s t = drop 8 (recordOf s t)
 
 pub record TablesBack (s : State) (t : Lent) : Type 0 where
   pub kind-is : kindAt (codeIn (written s t)) ≡ some (lentKind t)
-  pub answer : (counts xy zs ms : ℕ) → (several (lentForm t) ≡ true → Room t counts xy zs ms)
-      → Reading.recordOf Wants.Any (size (lentShape t)) (written s t) counts xy zs ms ≡ gives (shapedBy (lentForm t) t)
+  pub answer : (counts xs ys zs ms : ℕ) → (several (lentForm t) ≡ true → Room t counts xs ys zs ms)
+      → Reading.recordOf Wants.Any (size (lentShape t)) (written s t) counts xs ys zs ms ≡ gives (shapedBy (lentForm t) t)
   pub stores : several (lentForm t) ≡ true → TablesIn t (written s t)
 
 abbrev pub ReadsWritten : Type 0

@@ -7,14 +7,13 @@ use lib.ListN.{length, length-set}
 use lib.Seq.{sets}
 use Rattle.format.specs.Numbers.{doublesAt}
 use Rattle.format.proofs.LayoutLaws.{sets-all}
-use Rattle.format.proofs.NumberLaws.{length-doublesAt, doubles-end}
-use Rattle.fields.proofs.Turns.{read-turn}
+use Rattle.format.proofs.NumberLaws.{length-doublesAt, doubles-end, doubles-turn}
 use Rattle.fields.proofs.read_doubles.Statement.{statement}
 use Rattle.fields.proofs.read_doubles.Tie as tie
 
 abbrev Inv-loop : tie.InvT-loop
 Inv-loop s at out₀ i₀ out i =
-    (i ≤ length out₀) × (length out ≡ length out₀) × (sets out i (doublesAt (length out₀ - i) (at + 8 * i) s) ≡ doublesAt (length out₀) at s)
+    (i ≤ length out₀) × (length out ≡ length out₀) × (sets out i (doublesAt 8 (length out₀ - i) (at + 8 * i) s) ≡ doublesAt 8 (length out₀) at s)
 
 abbrev μ-loop : tie.MeasureT-loop
 μ-loop s at out₀ i₀ out i = length out₀ - i
@@ -22,7 +21,7 @@ abbrev μ-loop : tie.MeasureT-loop
 loop-holds : tie.Need-loop-holds Inv-loop μ-loop
 loop-holds c =
     let a = c .before .before .args in
-    (omega arith, refl, rw (sub-zero, add-zero) (sets-all _ _ (length-doublesAt (length (a .out .now)) (a .at) (a .s .now))))
+    (omega arith, refl, rw (sub-zero, add-zero) (sets-all _ _ (length-doublesAt 8 (length (a .out .now)) (a .at) (a .s .now))))
 
 loop-again : tie.Need-loop-again Inv-loop μ-loop
 loop-again c =
@@ -30,14 +29,14 @@ loop-again c =
     let a = c .before .before .before .before .before .args in (
       omega arith,
       simp length-set (l .inv .1),
-      rw (c .le-f64-at .ensures) (read-turn (l .out) (length (a .out .now)) (a .at) (l .i) (a .s .now) (omega arith) ∙ l .inv .2),
+      rw (c .le-f64-at .ensures) (doubles-turn 8 (l .out) (length (a .out .now)) (a .at) (l .i) (a .s .now) (omega arith) ∙ l .inv .2),
     )
 
 returns : tie.Need-returns Inv-loop μ-loop
 returns c =
     let l = c .before .loop in
     let a = c .before .before .before .before .args in
-    rw (doubles-end (length (a .out .now)) (a .at + 8 * l .i) (l .i) (a .s .now) (omega arith)) at (l .inv .2)
+    rw (doubles-end 8 (length (a .out .now)) (a .at + 8 * l .i) (l .i) (a .s .now) (omega arith)) at (l .inv .2)
 
 pub read-doubles-spec : {M : Type 1} → statement M
 read-doubles-spec =

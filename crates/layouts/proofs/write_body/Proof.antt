@@ -10,14 +10,14 @@ use Rattle.layouts.proofs.write_body.Statement.{statement}
 use Rattle.layouts.proofs.write_body.Tie as tie
 
 abbrev e0 : tie.After-judge-body → tie.Start
-e0 c = c .before .before .before .before .before .before
+e0 c = c .before .before .before .before .before .before .before
 
 -- what was judged of the tables, by the arm
-judged : (c : tie.After-judge-body) (r : LayoutAnswer) → c .judge-body .result ≡ r → saidLayout r ≡ layoutOf (e0 c .args .parts) (e0 c .args .z) (e0 c .args .m) (e0 c .args .counts .now) (e0 c .args .xy .now) (e0 c .args .zs .now) (e0 c .args .ms .now) (length (e0 c .args .out .now))
+judged : (c : tie.After-judge-body) (r : LayoutAnswer) → c .judge-body .result ≡ r → saidLayout r ≡ layoutOf (e0 c .args .parts) (e0 c .args .z) (e0 c .args .m) (e0 c .args .counts .now) (e0 c .args .xs .now) (e0 c .args .ys .now) (e0 c .args .zs .now) (e0 c .args .ms .now) (length (e0 c .args .out .now))
 judged c r e = ap saidLayout (sym e) ∙ c .judge-body .ensures
 
 put-body-requires : tie.Need-put-body-requires
-put-body-requires c κs = placed _ _ _ _ _ _ _ _ _ (judged (c .before .before .before .before) (Written _) (c .before .before .size2 .given .1))
+put-body-requires c κs = placed _ _ _ _ _ _ _ _ _ _ (judged (c .before .before .before .before) (Written _) (c .before .before .size2 .given .1))
 
 returns : tie.Need-returns
 returns c = record { says = judged (c .before .before) Tables (c .enum-told .given .1); out-is = refl }

@@ -18,7 +18,7 @@ use Rattle.multipart.proofs.read_rest.Tie as tie
 -- the start of the function, and what the walk found
 
 abbrev e0 : tie.After-le-i32-at → tie.Start
-e0 c = c .before .before .before .before .before .before .before
+e0 c = c .before .before .before .before .before .before .before .before
 
 abbrev e1 : tie.After-judge-rest → tie.Start
 e1 c = e0 (c .before)
@@ -39,40 +39,41 @@ judge-rest-requires c κs = (e0 c .pre, number c)
 
 store-body-requires : tie.Need-store-body-requires
 store-body-requires c κs =
-    let p = c .before .before .before .before .before .before in
+    let p = c .before .before .before .before .before .before .before in
     let w = on p in
     record {
       parts-are = e1 (p .before .before .before) .pre .parts-are;
       number-is = number (p .before .before .before .before);
       points-are = w .1 .0;
       ends = w .1 .1;
-      room = sym (c .before .before .before .before .before .has-room .ensures) ∙ c .before .before .before .before .if1 .taken;
+      room = sym (c .before .before .before .before .before .before .has-room .ensures) ∙ c .before .before .before .before .before .if1 .taken;
     }
 
 returns : tie.Need-returns
 returns c =
     let j = c .before .before .before in
-    unread _ _ _ _ _ _ _ _ _ tt
-    (rest-refused (e1 j .args .parts) (e1 j .args .z) (e1 j .args .m) (e1 j .args .s .now) _ _ _ _ (e1 j .pre .passes) _ (told j (Short (c .before .at .given .0 .0) (c .before .at .given .0 .1 .0)) (c .before .at .given .1)))
+    unread _ _ _ _ _ _ _ _ _ _ tt
+    (rest-refused (e1 j .args .parts) (e1 j .args .z) (e1 j .args .m) (e1 j .args .s .now) _ _ _ _ _ (e1 j .pre .passes) _ (told j (Short (c .before .at .given .0 .0) (c .before .at .given .0 .1 .0)) (c .before .at .given .1)))
 
 returns-2 : tie.Need-returns-2
 returns-2 c =
     let j = c .before .before .before in
-    unread _ _ _ _ _ _ _ _ _ tt
-    (rest-refused (e1 j .args .parts) (e1 j .args .z) (e1 j .args .m) (e1 j .args .s .now) _ _ _ _ (e1 j .pre .passes) _ (told j (Size (c .before .at2 .given .0 .0)) (c .before .at2 .given .1)))
+    unread _ _ _ _ _ _ _ _ _ _ tt
+    (rest-refused (e1 j .args .parts) (e1 j .args .z) (e1 j .args .m) (e1 j .args .s .now) _ _ _ _ _ (e1 j .pre .passes) _ (told j (Size (c .before .at2 .given .0 .0)) (c .before .at2 .given .1)))
 
 returns-3 : tie.Need-returns-3
 returns-3 c =
-    let p = c .before .before .before .before .before .before .before .before .before .before .before .before .before .before .before in
+    let p = c .before .before .before .before .before .before .before .before .before .before .before .before .before .before .before .before .before .before in
     let a = e1 (p .before .before .before) in
     let w = on p in
-    let d = c .before .before .before .before .before .before .before .before .store-body .ensures in
+    let d = c .before .before .before .before .before .before .before .before .before .before .store-body .ensures in
     record {
       says =
           ap gives (d .body-is)
-          ∙ whole-body (a .args .parts) (a .args .z) (a .args .m) (a .args .s .now) _ _ _ _ (a .pre .passes) _ _ (a .pre .parts-are) (w .1 .0) (w .0) (sym (c .before .before .before .before .before .before .before .before .before .before .before .before .before .before .has-room .ensures) ∙ c .before .before .before .before .before .before .before .before .before .before .before .before .before .if1 .taken);
+          ∙ whole-body (a .args .parts) (a .args .z) (a .args .m) (a .args .s .now) _ _ _ _ _ (a .pre .passes) _ _ (a .pre .parts-are) (w .1 .0) (w .0) (sym (c .before .before .before .before .before .before .before .before .before .before .before .before .before .before .before .before .before .has-room .ensures) ∙ c .before .before .before .before .before .before .before .before .before .before .before .before .before .before .before .before .if1 .taken);
       counts-are = d .counts-are;
-      xy-are = d .xy-are;
+      x-are = d .x-are;
+      y-are = d .y-are;
       z-are = d .z-are;
       m-are = d .m-are;
     }
@@ -82,8 +83,8 @@ returns-4 c =
     let p = c .before .before in
     let a = e1 (p .before .before .before) in
     let w = on p in
-    unread _ _ _ _ _ _ _ _ _ tt
-    (no-room (a .args .parts) (a .args .z) (a .args .m) (a .args .s .now) _ _ _ _ (a .pre .passes) _ _ (a .pre .parts-are) (w .1 .0) (w .0) (sym (c .before .has-room .ensures) ∙ c .if1 .left))
+    unread _ _ _ _ _ _ _ _ _ _ tt
+    (no-room (a .args .parts) (a .args .z) (a .args .m) (a .args .s .now) _ _ _ _ _ (a .pre .passes) _ _ (a .pre .parts-are) (w .1 .0) (w .0) (sym (c .before .has-room .ensures) ∙ c .if1 .left))
 
 pub read-rest-spec : {M : Type 1} → statement M
 read-rest-spec =
@@ -95,6 +96,6 @@ read-rest-spec =
     store-body-requires
     returns
     returns-2
-    (λ c. search needs) (λ c. search needs) (λ c. search needs) (λ c. search needs)
+    (λ c. search needs) (λ c. search needs) (λ c. search needs) (λ c. search needs) (λ c. search needs)
     returns-3
     returns-4)

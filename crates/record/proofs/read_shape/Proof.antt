@@ -21,15 +21,15 @@ rest-of : (s : List ℕ) → take (length s - 4) (drop 4 s) ≡ drop 4 s
 rest-of s = let h : length (drop 4 s) ≤ length s - 4 = simp length-drop (omega arith) in take-all (length s - 4) (drop 4 s) h
 
 abbrev e1 : tie.After-le-i32-at → tie.Start
-e1 c = c .before .before .before .before .before .before .before .before
+e1 c = c .before .before .before .before .before .before .before .before .before
 
 code-back : (c : tie.After-le-i32-at) → toZ w32 (ofZ w32 (c .le-i32-at .result)) ≡ codeIn (e1 c .args .s .now)
 code-back c = back w32 (c .le-i32-at .result) (c .le-i32-at .ok) ∙ c .le-i32-at .ensures
 
 returns : tie.Need-returns
 returns c =
-    let a = c .before .before .before .before .before .before .before in
-    null-shape (a .args .k) (a .args .size) (a .args .s .now) (a .args .counts .now) (a .args .xy .now) (a .args .zs .now) (a .args .ms .now) (null-form _ _ _ _ (a .pre) (c .if1 .taken))
+    let a = c .before .before .before .before .before .before .before .before in
+    null-shape (a .args .k) (a .args .size) (a .args .s .now) (a .args .counts .now) (a .args .xs .now) (a .args .ys .now) (a .args .zs .now) (a .args .ms .now) (null-form _ _ _ _ (a .pre) (c .if1 .taken))
 
 -- the code is not 0, and the kind has several points or not
 several-known : (c : tie.Then2) → (formOf (e1 (c .before .before) .args .k) ≡ some (severalForm (e1 (c .before .before) .args .k .parts))) × (e1 (c .before .before) .args .l ≡ lengthsFor (e1 (c .before .before) .args .k) (severalForm (e1 (c .before .before) .args .k .parts)))
@@ -45,7 +45,7 @@ point-known c =
 
 read-several-requires : tie.Need-read-several-requires
 read-several-requires c κs =
-    let t = c .before .before .before .before .before in
+    let t = c .before .before .before .before .before .before in
     (e1 (t .before .before) .pre .held, several-known t .1)
 
 read-point-requires : tie.Need-read-point-requires
@@ -56,15 +56,15 @@ read-point-requires c κs =
 
 returns-2 : tie.Need-returns-2
 returns-2 c =
-    let t = c .before .before .before .before .before .before .before .before .before .before .before .before .before .before in
+    let t = c .before .before .before .before .before .before .before .before .before .before .before .before .before .before .before .before .before in
     let r = t .before .before in
     let a = e1 r in
-    several-shape (a .args .k) (a .args .size) (a .args .s .now) (a .args .counts .now) (a .args .xy .now) (a .args .zs .now) (a .args .ms .now) _ (take (length (a .args .s .now) - 4) (drop 4 (a .args .s .now))) _ _ _ _ _ (several-known t .0) (code-back r) (rest-of (a .args .s .now)) (c .before .before .before .before .before .before .before .before .read-several .ensures)
+    several-shape (a .args .k) (a .args .size) (a .args .s .now) (a .args .counts .now) (a .args .xs .now) (a .args .ys .now) (a .args .zs .now) (a .args .ms .now) _ (take (length (a .args .s .now) - 4) (drop 4 (a .args .s .now))) _ _ _ _ _ _ (several-known t .0) (code-back r) (rest-of (a .args .s .now)) (c .before .before .before .before .before .before .before .before .before .before .read-several .ensures)
 
 returns-3 : tie.Need-returns-3
 returns-3 c =
     let a = e1 (c .before .before .before) in
-    point-shape (a .args .k) (a .args .size) (a .args .s .now) (a .args .counts .now) (a .args .xy .now) (a .args .zs .now) (a .args .ms .now) _ (point-known (c .before) .0) (c .read-point .ensures)
+    point-shape (a .args .k) (a .args .size) (a .args .s .now) (a .args .counts .now) (a .args .xs .now) (a .args .ys .now) (a .args .zs .now) (a .args .ms .now) _ (point-known (c .before) .0) (c .read-point .ensures)
 
 pub read-shape-spec : {M : Type 1} → statement M
 read-shape-spec =
@@ -74,6 +74,6 @@ read-shape-spec =
     (λ c κs. search needs) (λ c κs. search needs) (λ c. search needs) (λ c. search needs) (λ c. search needs)
     read-several-requires
     read-point-requires
-    (λ c. search needs) (λ c. search needs) (λ c. search needs) (λ c. search needs)
+    (λ c. search needs) (λ c. search needs) (λ c. search needs) (λ c. search needs) (λ c. search needs)
     returns-2
     returns-3)

@@ -20,10 +20,10 @@ use Rattle.writer.proofs.add_record.Statement.{statement}
 use Rattle.writer.proofs.add_record.Tie as tie
 
 abbrev start-of : tie.After-judge → tie.Start
-start-of c = c .before .before .before .before .before .before .before
+start-of c = c .before .before .before .before .before .before .before .before
 
 abbrev lent-of : tie.Start → Lent
-lent-of c = let a = c .args in lent (a .code) (a .bbox) (a .counts .now) (a .xy .now) (a .zs .now) (a .ms .now)
+lent-of c = let a = c .args in lent (a .code) (a .bbox) (a .counts .now) (a .xs .now) (a .ys .now) (a .zs .now) (a .ms .now)
 
 number-fits : (c : tie.Start) → SFits w32 (c .args .state .number)
 number-fits c = search needs
@@ -33,7 +33,7 @@ judged : (c : tie.After-judge) → let s = start-of c in let a = s .args in Judg
 judged c =
     let s = start-of c in
     let a = s .args in
-    subst (λ (z : ℤ). Judges (a .state) (lent z (a .bbox) (a .counts .now) (a .xy .now) (a .zs .now) (a .ms .now)) (length (a .out .now)) (a .start) (length (a .entry .now)) (c .judge .result))
+    subst (λ (z : ℤ). Judges (a .state) (lent z (a .bbox) (a .counts .now) (a .xs .now) (a .ys .now) (a .zs .now) (a .ms .now)) (length (a .out .now)) (a .start) (length (a .entry .now)) (c .judge .result))
     (toZ-ofZ w32 _ (s .fits .code)) (c .judge .ensures (a .bbox))
 
 passed : (c : tie.After-k) → let s = start-of (c .before .before) in let a = s .args in AllPassed (a .state) (lent-of s) (length (a .out .now)) (a .start) (length (a .entry .now)) (c .k .given .0 .0) (c .k .given .0 .1 .0) (c .k .given .0 .1 .1 .0) (c .k .given .0 .1 .1 .1 .0)
@@ -98,8 +98,8 @@ returns-2 c =
     let number = toZ-ofZ w32 _ (number-fits s) in
     let same = toZ-ofZ w32 _ (s .fits .code) in
     let kind = toZ-ofZ w32 _ (kind-fits (b .before)) ∙ (b .before .next-kind .ensures ∙ ap (kindBy (a .state)) same) in
-    let bounds = b .next-box .ensures ∙ ap (λ (z : ℤ). boxBy (a .state) z (k .k .given .0 .0) (a .bbox) (a .xy .now) (a .zs .now) (a .ms .now)) same in
-    let shape = shapeBy (k .k .given .0 .0) (a .bbox) (a .counts .now) (a .xy .now) (a .zs .now) (a .ms .now) in
+    let bounds = b .next-box .ensures ∙ ap (λ (z : ℤ). boxBy (a .state) z (k .k .given .0 .0) (a .bbox) (a .xs .now) (a .ys .now) (a .zs .now) (a .ms .now)) same in
+    let shape = shapeBy (k .k .given .0 .0) (a .bbox) (a .counts .now) (a .xs .now) (a .ys .now) (a .zs .now) (a .ms .now) in
     let tail = midOf (a .start) (length (a .out .now) - a .start) (a .out .now) in
     let stored = q .put-record .ensures ∙ (λ i. sets tail 0 (recordBytes (k .k .given .0 .0) (ofZ w32 (number i)) shape)) in
     record {

@@ -9,14 +9,14 @@ use Rattle.export.proofs.records.mbenaruul_read_record.Tie as tie
 
 returns : tie.Need-returns
 returns c =
-    let r = c .before .before .before .before .before .before .before .before .before in
-    let a = r .before .before .before .before .before .before .before .before .before .before in
-    reads Any (a .args .size) (a .args .content .now) (a .args .counts .now) (a .args .xy .now) (a .args .z .now) (a .args .m .now) (r .read-record .result) _ _ _ _ _ (c .record-read .ensures) (rw (back w64 (a .args .size) (a .fits .size .sfits)) at (r .read-record .ensures))
+    let r = c .before .before .before .before .before .before .before .before .before .before .before in
+    let a = r .before .before .before .before .before .before .before .before .before .before .before .before in
+    reads Any (a .args .size) (a .args .content .now) (a .args .counts .now) (a .args .x .now) (a .args .y .now) (a .args .z .now) (a .args .m .now) (r .read-record .result) _ _ _ _ _ _ (c .record-read .ensures) (rw (back w64 (a .args .size) (a .fits .size .sfits)) at (r .read-record .ensures))
 
 pub mbenaruul-read-record-spec : {M : Type 1} → statement M
 mbenaruul-read-record-spec =
     tie.close
     (tie.spec
     (λ c κs. search needs) (λ c κs. search needs) (λ c. search needs) (λ c. search needs) (λ c. search needs)
-    (λ c. search needs)
+    (λ c. search needs) (λ c. search needs)
     returns)

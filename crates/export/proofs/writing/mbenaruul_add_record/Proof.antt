@@ -26,7 +26,7 @@ adds s t out start entry w out′ entry′ r e h =
 returns : tie.Need-returns
 returns c =
     let w = c .before .before .before .before .before .before in
-    let a = w .before .before .before .before .before .before .before .before .before in
+    let a = w .before .before .before .before .before .before .before .before .before .before in
     adds _ _ _ _ _ _ _ _ _ (c .add-answer .ensures) (rw (back w32 (a .args .code) (a .fits .code .sfits)) at (w .add-record .ensures))
 
 pub mbenaruul-add-record-spec : {M : Type 1} → statement M

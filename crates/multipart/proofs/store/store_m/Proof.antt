@@ -19,7 +19,7 @@ Inv-loop s m n at ms₀ i₀ ms i =
     × (at + (16 + 8 * n) ≤ length s)
     × (n ≤ length ms₀)
     × (length ms ≡ length ms₀)
-    × (sets ms i (map raised (doublesAt (n - i) (at + 16 + 8 * i) s)) ≡ sets ms₀ 0 (map raised (doublesAt n (at + 16) s)))
+    × (sets ms i (map raised (doublesAt 8 (n - i) (at + 16 + 8 * i) s)) ≡ sets ms₀ 0 (map raised (doublesAt 8 n (at + 16) s)))
 
 abbrev μ-loop : tie.MeasureT-loop
 μ-loop s m n at ms₀ i₀ ms i = n - i

@@ -6,10 +6,10 @@ use Rattle.replay.proofs.files.all.Statement.{statement}
 use Rattle.replay.proofs.files.all.Tie as tie
 
 abbrev Inv-loop : tie.InvT-loop
-Inv-loop s x room shapes counts₀ values₀ out₀ code w₀ left₀ counts values out w left = (length counts ≡ length counts₀) × (length values ≡ length values₀) × (length out ≡ length out₀)
+Inv-loop s x room shapes counts₀ xs₀ ys₀ zs₀ ms₀ out₀ code w₀ left₀ counts xs ys zs ms out w left = (length counts ≡ length counts₀) × (length xs ≡ length xs₀) × (length ys ≡ length ys₀) × (length zs ≡ length zs₀) × (length ms ≡ length ms₀) × (length out ≡ length out₀)
 
 abbrev μ-loop : tie.MeasureT-loop
-μ-loop s x room shapes counts₀ values₀ out₀ code w₀ left₀ counts values out w left = left
+μ-loop s x room shapes counts₀ xs₀ ys₀ zs₀ ms₀ out₀ code w₀ left₀ counts xs ys zs ms out w left = left
 
 pub all-spec : {M : Type 1} → statement M
 all-spec =
@@ -19,4 +19,4 @@ all-spec =
     μ-loop
     (λ c κs. search needs) (λ c κs. search needs) (λ c. search needs) (λ c. search needs) (λ c κs. search needs)
     (λ c. search needs) (λ c. search needs) (λ c. search needs) (λ c. search needs) (λ c. search needs)
-    (λ c. search needs))
+    (λ c. search needs) (λ c. search needs) (λ c. search needs) (λ c. search needs))

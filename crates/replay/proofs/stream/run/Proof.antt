@@ -6,10 +6,10 @@ use Rattle.replay.proofs.stream.run.Statement.{statement}
 use Rattle.replay.proofs.stream.run.Tie as tie
 
 abbrev Inv-loop : tie.InvT-loop
-Inv-loop all₀ counts₀ xy₀ zs₀ ms₀ out₀ t₀ left₀ all counts xy zs ms out t left = (length all ≡ length all₀) × (length counts ≡ length counts₀) × (length xy ≡ length xy₀) × (length zs ≡ length zs₀) × (length ms ≡ length ms₀) × (length out ≡ length out₀)
+Inv-loop all₀ counts₀ xs₀ ys₀ zs₀ ms₀ out₀ t₀ left₀ all counts xs ys zs ms out t left = (length all ≡ length all₀) × (length counts ≡ length counts₀) × (length xs ≡ length xs₀) × (length ys ≡ length ys₀) × (length zs ≡ length zs₀) × (length ms ≡ length ms₀) × (length out ≡ length out₀)
 
 abbrev μ-loop : tie.MeasureT-loop
-μ-loop all₀ counts₀ xy₀ zs₀ ms₀ out₀ t₀ left₀ all counts xy zs ms out t left = left
+μ-loop all₀ counts₀ xs₀ ys₀ zs₀ ms₀ out₀ t₀ left₀ all counts xs ys zs ms out t left = left
 
 pub run-spec : {M : Type 1} → statement M
 run-spec =
@@ -19,4 +19,4 @@ run-spec =
     μ-loop
     (λ c. search needs) (λ c κs. search needs) (λ c κs. search needs) (λ c. search needs) (λ c. search needs)
     (λ c. search needs) (λ c. search needs) (λ c. search needs) (λ c. search needs) (λ c. search needs)
-    (λ c. search needs) (λ c. search needs))
+    (λ c. search needs) (λ c. search needs) (λ c. search needs))

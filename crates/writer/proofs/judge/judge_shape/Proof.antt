@@ -12,17 +12,17 @@ use Rattle.writer.proofs.judge.judge_shape.Statement.{statement}
 use Rattle.writer.proofs.judge.judge_shape.Tie as tie
 
 abbrev lent-of : tie.Start → BBoxZ → Lent
-lent-of c b = let a = c .args in lent (a .code) b (a .counts .now) (a .xy .now) (a .zs .now) (a .ms .now)
+lent-of c b = let a = c .args in lent (a .code) b (a .counts .now) (a .xs .now) (a .ys .now) (a .zs .now) (a .ms .now)
 
 -- the function's start, from two places
 abbrev a1 : tie.After-n → tie.Start
-a1 c = c .before .before .before .before .before .before .before
+a1 c = c .before .before .before .before .before .before .before .before
 
 abbrev a2 : tie.After-judge-length → tie.Start
 a2 c = a1 (c .before .before .before)
 
 -- the tables agreed on n points
-tables-are : (c : tie.After-n) → let a = a1 c .args in tablesJudged (a .k) (a .counts .now) (a .xy .now) (a .zs .now) (a .ms .now) ≡ Agree (c .n .given .0 .0)
+tables-are : (c : tie.After-n) → let a = a1 c .args in tablesJudged (a .k) (a .counts .now) (a .xs .now) (a .ys .now) (a .zs .now) (a .ms .now) ≡ Agree (c .n .given .0 .0)
 tables-are c = sym (c .before .before .judge-tables .ensures) ∙ c .n .given .1
 
 -- the lengths are held
@@ -42,7 +42,7 @@ returns : tie.Need-returns
 returns c =
     λ b.
     let j = c .before .before in
-    let s = j .before .before .before .before .before in
+    let s = j .before .before .before .before .before .before in
     let a = s .args in
     refused-tables (a .state) (lent-of s b) (a .k) (s .pre .1 .0) (s .pre .0) (a .f) (s .pre .1 .1) (a .out) (a .start) (a .entry) (sym (j .judge-tables .ensures) ∙ c .enum-told .given .1)
 

@@ -19,7 +19,7 @@ returns-2 c =
     let s = p .before in
     let h = s .before .has-several in
     let t : h .result ≡ false = s .if1 .left in
-    rw (sym (h .ensures) ∙ t) (c .flat-box2 .ensures ∙ ap (flat (s .before .before .before .before .before .args .k)) (p .point-box .ensures))
+    rw (sym (h .ensures) ∙ t) (c .flat-box2 .ensures ∙ ap (flat (s .before .before .before .before .before .before .args .k)) (p .point-box .ensures))
 
 pub own-box-spec : {M : Type 1} → statement M
 own-box-spec =

@@ -13,7 +13,7 @@ use Rattle.writer.proofs.record.put_body.Statement.{statement}
 use Rattle.writer.proofs.record.put_body.Tie as tie
 
 abbrev start : tie.Else1 → tie.Start
-start c = c .before .before .before .before .before .before .before
+start c = c .before .before .before .before .before .before .before .before
 
 not-several : (c : tie.Else1) → hasSeveral (start c .args .k) ≡ false
 not-several c = sym (c .before .has-several .ensures) ∙ c .if1 .left
@@ -22,15 +22,15 @@ returns : tie.Need-returns
 returns c =
     let p = c .before .before in
     let i = p .before .before in
-    let s = i .before .before .before .before .before .before .before in
+    let s = i .before .before .before .before .before .before .before .before in
     let a = s .args in
-    several-body (a .k) (a .bbox) (a .counts .now) (a .xy .now) (a .zs .now) (a .ms .now) (a .out .now) (s .pre) (sym (i .before .has-several .ensures) ∙ i .if1 .taken) _ _ (p .write-body .ensures)
+    several-body (a .k) (a .bbox) (a .counts .now) (a .xs .now) (a .ys .now) (a .zs .now) (a .ms .now) (a .out .now) (s .pre) (sym (i .before .has-several .ensures) ∙ i .if1 .taken) _ _ (p .write-body .ensures)
 
 returns-2 : tie.Need-returns-2
 returns-2 c =
     let t = c .before .before in
     let a = start t .args in
-    sym (ap (λ (l : List ℕ). sets (a .out .now) 0 l) (null-body (a .k) (a .bbox) (a .counts .now) (a .xy .now) (a .zs .now) (a .ms .now) (not-several t) (eq-eqb _ 0 (c .if2 .taken))))
+    sym (ap (λ (l : List ℕ). sets (a .out .now) 0 l) (null-body (a .k) (a .bbox) (a .counts .now) (a .xs .now) (a .ys .now) (a .zs .now) (a .ms .now) (not-several t) (eq-eqb _ 0 (c .if2 .taken))))
 
 put-point-requires : tie.Need-put-point-requires
 put-point-requires c κs =
@@ -38,7 +38,7 @@ put-point-requires c κs =
     let t = n .before .before in
     let s = start t in
     let a = s .args in
-    point-room (a .k) (a .bbox) (a .counts .now) (a .xy .now) (a .zs .now) (a .ms .now) (length (a .out .now)) (s .pre) (not-several t) (ne-eqb _ 0 (n .if2 .left))
+    point-room (a .k) (a .bbox) (a .counts .now) (a .xs .now) (a .ys .now) (a .zs .now) (a .ms .now) (length (a .out .now)) (s .pre) (not-several t) (ne-eqb _ 0 (n .if2 .left))
 
 returns-3 : tie.Need-returns-3
 returns-3 c =
@@ -48,7 +48,7 @@ returns-3 c =
     let s = start t in
     let a = s .args in
     p .put-point .ensures
-    ∙ ap (λ (l : List ℕ). sets (a .out .now) 0 l) (point-body (a .k) (a .bbox) (a .counts .now) (a .xy .now) (a .zs .now) (a .ms .now) (length (a .out .now)) (s .pre) (not-several t) (ne-eqb _ 0 (n .if2 .left)))
+    ∙ ap (λ (l : List ℕ). sets (a .out .now) 0 l) (point-body (a .k) (a .bbox) (a .counts .now) (a .xs .now) (a .ys .now) (a .zs .now) (a .ms .now) (length (a .out .now)) (s .pre) (not-several t) (ne-eqb _ 0 (n .if2 .left)))
 
 pub put-body-spec : {M : Type 1} → statement M
 put-body-spec =
