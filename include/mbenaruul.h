@@ -6,9 +6,11 @@
  *
  * Nothing is kept between calls, allocated or shared: any number of threads may call at once, where none writes to what another was lent.
  *
+ * The coordinates of points are two slices, all x and all y: point i is x[i] and y[i].
+ *
  * Empty stores ask for the room. Room is judged last: lent less than it needs, or nothing at all, a call refuses with 6 and says what it needs,
- * and with so much it then succeeds. For p parts and n points, counts takes p, xy 2n, z and m n each, where the record has them; a multipoint has
- * 0 parts, and leaves counts as it is. Of an output the bytes are told, start included. rust/c/write.c asks so, both when it writes and when it reads.
+ * and with so much it then succeeds. For p parts and n points, counts takes p, x and y n each, and so z and m, where the record has them; a multipoint
+ * has 0 parts, and leaves counts as it is. Of an output the bytes are told, start included. rust/c/write.c asks so, both when it writes and when it reads.
  *
  * mbenaruul_ring_type_from_points_ordering computes with doubles, and assumes the processor's default floating-point mode: round to nearest,
  * denormal numbers kept (no flush-to-zero, no denormals-are-zero, which -ffast-math may switch on). No other call depends on the mode: whether
@@ -28,7 +30,7 @@
  *       docs/RULES.md says each rule in plain words and what usually breaks it
  *    9  not taken: a kind that is not read or written   first: the kind's code: 31, Multipatch; 0, Null, where it is wanted or would be the first
  *       record
- *   10  tables: lent tables disagree in length, or a Null record comes with one that is not empty
+ *   10  tables: lent tables disagree in length, or a Null record comes with one that is not empty; a run of points goes past x or past y
  * Values that a refusal does not have are 0. A code that is below 0 stands as its 32 bits: (int32_t)first.
  */
 #ifndef MBENARUUL_H
@@ -75,11 +77,11 @@ typedef struct {
     mbenaruul_point point;
     mbenaruul_body body;
 } mbenaruul_record_read;
-mbenaruul_record_read mbenaruul_read_record(const uint8_t *content, size_t n, int64_t size, uint32_t *counts, size_t counts_n, double *xy, size_t xy_n,
-                                            double *z, size_t z_n, double *m, size_t m_n);
+mbenaruul_record_read mbenaruul_read_record(const uint8_t *content, size_t n, int64_t size, uint32_t *counts, size_t counts_n, double *x, size_t x_n,
+                                            double *y, size_t y_n, double *z, size_t z_n, double *m, size_t m_n);
 /* the same, where one kind is wanted */
 mbenaruul_record_read mbenaruul_read_record_of(int32_t wanted, const uint8_t *content, size_t n, int64_t size, uint32_t *counts, size_t counts_n,
-                                               double *xy, size_t xy_n, double *z, size_t z_n, double *m, size_t m_n);
+                                               double *x, size_t x_n, double *y, size_t y_n, double *z, size_t z_n, double *m, size_t m_n);
 
 /* ---- the pair checker */
 
@@ -95,10 +97,10 @@ mbenaruul_pair_checked mbenaruul_check_pair(const uint8_t *shp, size_t shp_n, co
  *   - the .shx: a header of 100 bytes, then the 8 bytes of each record's entry, behind those of the last one.
  *   - when all records are added, the two headers that mbenaruul_finish gives go in front.
  * The first record gives the file its kind: 1, 3, 5 or 8, 21, 23, 25 or 28 with m, 11, 13, 15 or 18 with z and m; 0 is refused with 9. Each further
- * record has that kind, or is a Null record, which is an empty place among them: code 0 and four empty tables. A Null record takes 12 bytes, and kind
+ * record has that kind, or is a Null record, which is an empty place among them: code 0 and five empty tables. A Null record takes 12 bytes, and kind
  * and box of the state stay as they were; the box that comes with it plays no part.
- * counts has the number of points of each part, and they sum to n; xy has 2n doubles, z and m n each where the kind has them, else 0. A point (1, 21,
- * 11) has no counts and n is 1; a multipoint (8, 28, 18) has no counts, and n is half of what xy has, 0 too.
+ * counts has the number of points of each part, and they sum to n; x and y have n doubles each, z and m n each where the kind has them, else 0. A point
+ * (1, 21, 11) has no counts and n is 1; a multipoint (8, 28, 18) has no counts, and n is what x and y have, 0 too.
  * Of tables only the lengths are judged: a ring that is open, NaN, a part of one point, a multipoint of none, a box that is not the true one are
  * written as given. */
 typedef struct { int32_t words, number, kind; mbenaruul_bbox bbox; } mbenaruul_state;
@@ -107,22 +109,25 @@ mbenaruul_state mbenaruul_new(void);
  * The next record takes the state that comes back. */
 typedef struct { mbenaruul_refusal refusal; size_t bytes; mbenaruul_state state; } mbenaruul_added;
 mbenaruul_added mbenaruul_add_record(mbenaruul_state state, int32_t code, mbenaruul_bbox bbox, const uint32_t *counts, size_t counts_n,
-                                     const double *xy, size_t xy_n, const double *z, size_t z_n, const double *m, size_t m_n, uint8_t *out, size_t out_n,
-                                     size_t start, uint8_t *entry, size_t entry_n);
+                                     const double *x, size_t x_n, const double *y, size_t y_n, const double *z, size_t z_n, const double *m, size_t m_n,
+                                     uint8_t *out, size_t out_n, size_t start, uint8_t *entry, size_t entry_n);
 /* the same over a state that is lent, which is not NULL, and advanced by the call; a refusal leaves it as it is */
 typedef struct { mbenaruul_refusal refusal; size_t bytes; } mbenaruul_written;
 mbenaruul_written mbenaruul_write_shape(mbenaruul_state *state, int32_t code, mbenaruul_bbox bbox, const uint32_t *counts, size_t counts_n,
-                                        const double *xy, size_t xy_n, const double *z, size_t z_n, const double *m, size_t m_n, uint8_t *out, size_t out_n,
-                                        size_t start, uint8_t *entry, size_t entry_n);
+                                        const double *x, size_t x_n, const double *y, size_t y_n, const double *z, size_t z_n, const double *m, size_t m_n,
+                                        uint8_t *out, size_t out_n, size_t start, uint8_t *entry, size_t entry_n);
 typedef struct { mbenaruul_refusal refusal; uint8_t shp[100], shx[100]; } mbenaruul_finished;
 mbenaruul_finished mbenaruul_finish(mbenaruul_state state);
 
-/* ---- rings: a run of points x0 y0 x1 y1 .. */
+/* ---- rings: a run of n points, the first n of x and of y. Where x or y has fewer, that is 10 */
 
 typedef struct { mbenaruul_refusal refusal; size_t value; } mbenaruul_told;
-mbenaruul_told mbenaruul_is_part_closed(const double *xy, size_t n);                      /* 1 closed, 0 not */
-mbenaruul_told mbenaruul_ring_type_from_points_ordering(const double *xy, size_t n);      /* 1 inner, 0 outer */
-mbenaruul_told mbenaruul_close_points_if_not_already(double *store, size_t n, size_t run); /* the points of the closed run */
+/* 1 closed, 0 not */
+mbenaruul_told mbenaruul_is_part_closed(const double *x, size_t x_n, const double *y, size_t y_n, size_t n);
+/* 1 inner, 0 outer */
+mbenaruul_told mbenaruul_ring_type_from_points_ordering(const double *x, size_t x_n, const double *y, size_t y_n, size_t n);
+/* the points of the closed run. An open one takes the entry behind it in x and in y; where one of the two has none, that is 6 with 0 and n + 1 */
+mbenaruul_told mbenaruul_close_points_if_not_already(double *x, size_t x_n, double *y, size_t y_n, size_t n);
 
 /* ---- how the structs lie: their bytes, and those of each field, from and up to. A compiler that lays one out otherwise stops here; the Rust
  * crate's src/ffi/layout.rs has the same numbers. */

@@ -51,9 +51,9 @@ static int takes_least_for_zero(void) {
 static mbenaruul_refusal verdict(const uint64_t *last) {
     uint8_t shp[100 + 8 + 48 + 64], shx[108];
     const uint32_t counts[] = {4};
-    const double ring[] = {0, 0, 0, 1, 1, 1, 0, 0};
+    const double x[] = {0, 0, 1, 0}, y[] = {0, 1, 1, 0};
     const mbenaruul_bbox box = {0, 0, 1, 1, 0, 0, 0, 0};
-    mbenaruul_added a = mbenaruul_add_record(mbenaruul_new(), 5, box, counts, 1, ring, 8, NULL, 0, NULL, 0, shp, sizeof shp, 100, shx + 100, 8);
+    mbenaruul_added a = mbenaruul_add_record(mbenaruul_new(), 5, box, counts, 1, x, 4, y, 4, NULL, 0, NULL, 0, shp, sizeof shp, 100, shx + 100, 8);
     mbenaruul_finished f = mbenaruul_finish(a.state);
 
     memcpy(shp, f.shp, 100);
@@ -65,18 +65,19 @@ static mbenaruul_refusal verdict(const uint64_t *last) {
 /* A ring from (0, 0) to this last point is closed, or not. */
 static void ends_at(const char *name, uint64_t x, uint64_t y, int closed) {
     const uint64_t last[2] = {x, y};
-    double run[] = {0, 0, 0, 1, 1, 1, 0, 0, 7, 7};
+    double xs[] = {0, 0, 1, 0, 7}, ys[] = {0, 1, 1, 0, 7};
     mbenaruul_refusal r = verdict(last);
     mbenaruul_told t;
 
     of = name;
     CHECK(closed ? r.number == 0 : r.number == 8 && r.first == 15 && r.second == 1);
-    memcpy(run + 6, last, 16);
-    t = mbenaruul_is_part_closed(run, 8);
+    xs[3] = double_of(x);
+    ys[3] = double_of(y);
+    t = mbenaruul_is_part_closed(xs, 5, ys, 5, 4);
     CHECK(t.refusal.number == 0 && t.value == (size_t)closed);
-    t = mbenaruul_close_points_if_not_already(run, 10, 8);
+    t = mbenaruul_close_points_if_not_already(xs, 5, ys, 5, 4);
     CHECK(t.refusal.number == 0 && t.value == (closed ? 4 : 5));
-    CHECK(closed ? run[8] == 7 : has_bits(run[8], ZERO) && has_bits(run[9], ZERO));
+    CHECK(closed ? xs[4] == 7 && ys[4] == 7 : has_bits(xs[4], ZERO) && has_bits(ys[4], ZERO));
 }
 
 static void closed(void) {
@@ -91,18 +92,16 @@ static void closed(void) {
 static mbenaruul_state with_point(mbenaruul_state s, uint64_t x, uint64_t y) {
     uint8_t out[28], entry[8];
     const mbenaruul_bbox box = {0, 0, 0, 0, 0, 0, 0, 0};
-    double xy[2];
+    double x_of = double_of(x), y_of = double_of(y);
 
-    xy[0] = double_of(x);
-    xy[1] = double_of(y);
-    return mbenaruul_add_record(s, 1, box, NULL, 0, xy, 2, NULL, 0, NULL, 0, out, sizeof out, 0, entry, 8).state;
+    return mbenaruul_add_record(s, 1, box, NULL, 0, &x_of, 1, &y_of, 1, NULL, 0, NULL, 0, out, sizeof out, 0, entry, 8).state;
 }
 
 static mbenaruul_state with_null(mbenaruul_state s) {
     uint8_t out[12], entry[8];
     const mbenaruul_bbox box = {0, 0, 0, 0, 0, 0, 0, 0};
 
-    return mbenaruul_add_record(s, 0, box, NULL, 0, NULL, 0, NULL, 0, NULL, 0, out, sizeof out, 0, entry, 8).state;
+    return mbenaruul_add_record(s, 0, box, NULL, 0, NULL, 0, NULL, 0, NULL, 0, NULL, 0, out, sizeof out, 0, entry, 8).state;
 }
 
 static void boxes(void) {
@@ -123,16 +122,16 @@ static void boxes(void) {
 static void measures_of(const char *name, int32_t code, size_t parts, size_t size) {
     uint8_t out[8 + 112], entry[8];
     const uint32_t counts[] = {2};
-    const double xy[] = {0, 0, 1, 1};
+    const double x[] = {0, 1}, y[] = {0, 1};
     const mbenaruul_bbox box = {0, 0, 1, 1, 0, 0, 0, 0};
     uint32_t c[1];
-    double m[2], p[4], found[2];
+    double m[2], xs[2], ys[2], found[2];
 
     of = name;
     m[0] = double_of(LEAST);
     m[1] = double_of(MINUS_LEAST);
-    mbenaruul_add_record(mbenaruul_new(), code, box, counts, parts, xy, 4, NULL, 0, m, 2, out, sizeof out, 0, entry, 8);
-    CHECK(mbenaruul_read_record(out + 8, size, (int64_t)size, c, 1, p, 4, NULL, 0, found, 2).refusal.number == 0);
+    mbenaruul_add_record(mbenaruul_new(), code, box, counts, parts, x, 2, y, 2, NULL, 0, m, 2, out, sizeof out, 0, entry, 8);
+    CHECK(mbenaruul_read_record(out + 8, size, (int64_t)size, c, 1, xs, 2, ys, 2, NULL, 0, found, 2).refusal.number == 0);
     CHECK(has_bits(found[0], LEAST) && has_bits(found[1], MINUS_LEAST));
 }
 

@@ -36,45 +36,47 @@ static void grow(file *f, size_t bytes) {
 }
 
 /* The box of a run; the library writes the one that it is given. */
-static mbenaruul_bbox box_of(const double *xy, size_t points) {
+static mbenaruul_bbox box_of(const double *x, const double *y, size_t points) {
     mbenaruul_bbox box = {0, 0, 0, 0, 0, 0, 0, 0};
     size_t i;
 
     for (i = 0; i < points; i++) {
-        double x = xy[2 * i], y = xy[2 * i + 1];
-        if (i == 0 || x < box.xmin) box.xmin = x;
-        if (i == 0 || y < box.ymin) box.ymin = y;
-        if (i == 0 || x > box.xmax) box.xmax = x;
-        if (i == 0 || y > box.ymax) box.ymax = y;
+        if (i == 0 || x[i] < box.xmin) box.xmin = x[i];
+        if (i == 0 || y[i] < box.ymin) box.ymin = y[i];
+        if (i == 0 || x[i] > box.xmax) box.xmax = x[i];
+        if (i == 0 || y[i] > box.ymax) box.ymax = y[i];
     }
     return box;
 }
 
 /* One more record, of one part, behind the last one; and its entry. */
-static void add_run(mbenaruul_state *state, file *shp, file *shx, const double *xy, uint32_t points) {
-    mbenaruul_bbox box = box_of(xy, points);
-    size_t start = shp->n, xy_n = 2 * (size_t)points;
-    mbenaruul_written w = mbenaruul_write_shape(state, POLYLINE, box, &points, 1, xy, xy_n, NULL, 0, NULL, 0, NULL, 0, start, NULL, 0);
+static void add_run(mbenaruul_state *state, file *shp, file *shx, const double *x, const double *y, uint32_t points) {
+    mbenaruul_bbox box = box_of(x, y, points);
+    size_t start = shp->n, n = points;
+    mbenaruul_written w = mbenaruul_write_shape(state, POLYLINE, box, &points, 1, x, n, y, n, NULL, 0, NULL, 0, NULL, 0, start, NULL, 0);
 
     if (w.refusal.number != 6) /* it was lent no room */
         stop("the run is refused");
     grow(shp, (size_t)w.refusal.first); /* which is start and the record's bytes */
     grow(shx, shx->n + ENTRY);
-    w = mbenaruul_write_shape(state, POLYLINE, box, &points, 1, xy, xy_n, NULL, 0, NULL, 0, shp->bytes, shp->n, start, shx->bytes + shx->n - ENTRY, ENTRY);
+    w = mbenaruul_write_shape(state, POLYLINE, box, &points, 1, x, n, y, n, NULL, 0, NULL, 0, shp->bytes, shp->n, start,
+                              shx->bytes + shx->n - ENTRY, ENTRY);
     if (w.refusal.number != 0)
         stop("the run is refused");
 }
 
 static void put_together(file *shp, file *shx) {
-    static const double spine[] = {0, 0, 9, 0}, corner[] = {0, 4, 9, 4, 9, 8}, bay[] = {2, 6, 5, 6};
+    static const double spine_x[] = {0, 9}, spine_y[] = {0, 0};
+    static const double corner_x[] = {0, 9, 9}, corner_y[] = {4, 4, 8};
+    static const double bay_x[] = {2, 5}, bay_y[] = {6, 6};
     mbenaruul_state state = mbenaruul_new();
     mbenaruul_finished finished;
 
     grow(shp, HEADER); /* the headers come last, and go in front */
     grow(shx, HEADER);
-    add_run(&state, shp, shx, spine, 2);
-    add_run(&state, shp, shx, corner, 3);
-    add_run(&state, shp, shx, bay, 2);
+    add_run(&state, shp, shx, spine_x, spine_y, 2);
+    add_run(&state, shp, shx, corner_x, corner_y, 3);
+    add_run(&state, shp, shx, bay_x, bay_y, 2);
     finished = mbenaruul_finish(state);
     if (finished.refusal.number != 0)
         stop("the state is refused");
@@ -94,25 +96,27 @@ static void print_run(file shp, file shx, size_t k) {
     mbenaruul_index_entry entry = mbenaruul_read_index_entry(shx.bytes + HEADER + ENTRY * k, ENTRY).entry;
     const uint8_t *content = shp.bytes + 2 * (size_t)entry.offset + RECORD_HEADER; /* lengths and offsets are in words of two bytes */
     size_t size = 2 * (size_t)entry.content_length, parts, points, i;
-    mbenaruul_record_read r = mbenaruul_read_record(content, size, (int64_t)size, NULL, 0, NULL, 0, NULL, 0, NULL, 0);
+    mbenaruul_record_read r = mbenaruul_read_record(content, size, (int64_t)size, NULL, 0, NULL, 0, NULL, 0, NULL, 0, NULL, 0);
     uint32_t *counts;
-    double *xy;
+    double *x, *y;
 
     if (r.refusal.number != 6) /* it was lent no room */
         stop("a record has no point");
     parts = (size_t)r.refusal.first;
     points = (size_t)r.refusal.second;
     counts = room(NULL, parts * sizeof *counts);
-    xy = room(NULL, 2 * points * sizeof *xy);
-    r = mbenaruul_read_record_of(POLYLINE, content, size, (int64_t)size, counts, parts, xy, 2 * points, NULL, 0, NULL, 0);
+    x = room(NULL, points * sizeof *x);
+    y = room(NULL, points * sizeof *y);
+    r = mbenaruul_read_record_of(POLYLINE, content, size, (int64_t)size, counts, parts, x, points, y, points, NULL, 0, NULL, 0);
     if (r.refusal.number != 0)
         stop("a record is refused");
     printf("run %zu:", k + 1);
     for (i = 0; i < points; i++)
-        printf(" (%g, %g)", xy[2 * i], xy[2 * i + 1]);
+        printf(" (%g, %g)", x[i], y[i]);
     printf("\n");
     free(counts);
-    free(xy);
+    free(x);
+    free(y);
 }
 
 int main(int argc, char **argv) {

@@ -120,7 +120,7 @@ fn body(s: &[u8], z: bool, m: bool, multipoint: bool, a: &mut Answer) -> bool {
             return true;
         }
     };
-    let (p, n) = (b.counts.len(), b.xy.len() / 2);
+    let (p, n) = (b.counts.len(), b.x.len());
     let none = Run { range: [0.0; 2], values: Vec::new() };
     let (zs, ms) = (b.z.as_ref().unwrap_or(&none), b.m.as_ref().unwrap_or(&none));
     a.byte(0);
@@ -130,7 +130,8 @@ fn body(s: &[u8], z: bool, m: bool, multipoint: bool, a: &mut Answer) -> bool {
     a.word(p as u32);
     a.word(n as u32);
     b.counts.iter().for_each(|&c| a.word(c as u32));
-    a.doubles(&b.xy);
+    a.doubles(&b.x);
+    a.doubles(&b.y);
     a.doubles(&zs.values);
     let front = if multipoint { 36 } else { 40 + 4 * p };
     let ms_at = front + 16 * n + if z { 16 + 8 * n } else { 0 } + 16;
@@ -142,16 +143,20 @@ fn body(s: &[u8], z: bool, m: bool, multipoint: bool, a: &mut Answer) -> bool {
     true
 }
 
+/// A run: all its x, then all its y.
 fn rings(s: &[u8], a: &mut Answer) {
-    let xy: Vec<f64> = (0..s.len() / 8).map(|i| double_at(s, 8 * i)).collect();
-    a.byte(driver::ring_closed(&xy) as u8);
-    a.byte(driver::ring_inner(&xy) as u8);
-    let closed = driver::ring_close(&xy);
-    a.word(closed.len() as u32 / 2);
-    a.doubles(&closed);
+    let n = s.len() / 16;
+    let axis = |from: usize| (from..from + n).map(|i| double_at(s, 8 * i)).collect::<Vec<f64>>();
+    let (x, y) = (axis(0), axis(n));
+    a.byte(driver::ring_closed(&x, &y) as u8);
+    a.byte(driver::ring_inner(&x, &y) as u8);
+    let (x, y) = driver::ring_close(&x, &y);
+    a.word(x.len() as u32);
+    a.doubles(&x);
+    a.doubles(&y);
 }
 
-/// The shape whose tables stand at a place, which moves on: the box, then the part counts, xy, z and m, each with its number of entries in front.
+/// The shape whose tables stand at a place, which moves on: the box, then the part counts, x, y, z and m, each with its number of entries in front.
 fn tables(s: &[u8], at: &mut usize, z: bool, m: bool) -> Body {
     let start = *at;
     let b = |i: usize| double_at(s, start + 8 * i);
@@ -163,11 +168,12 @@ fn tables(s: &[u8], at: &mut usize, z: bool, m: bool) -> Body {
     };
     let counts = list(4).map(|i| int_at(s, i) as usize).collect();
     let mut run = || list(8).map(|i| double_at(s, i)).collect::<Vec<f64>>();
-    let (xy, zs, ms) = (run(), run(), run());
+    let (x, y, zs, ms) = (run(), run(), run(), run());
     Body {
         bbox: [b(0), b(1), b(2), b(3)],
         counts,
-        xy,
+        x,
+        y,
         z: z.then(|| Run { range: [b(4), b(5)], values: zs }),
         m: m.then(|| Run { range: [b(6), b(7)], values: ms }),
     }

@@ -110,7 +110,7 @@ impl Random {
         let n = self.below(9) as usize;
         let mut s = self.doubles(2 * n);
         if n > 1 && self.below(2) == 0 {
-            s.copy_within(..16, 16 * (n - 1));
+            [0, 8 * n].into_iter().for_each(|axis| s.copy_within(axis..axis + 8, axis + 8 * (n - 1)));
         }
         s
     }
@@ -128,7 +128,7 @@ impl Random {
         let mut s = self.doubles(8);
         s.extend(ints(&[counts.len() as i32]));
         s.extend(ints(&counts));
-        for k in [2 * n, if z { n } else { 0 }, if m { n } else { 0 }] {
+        for k in [n, n, if z { n } else { 0 }, if m { n } else { 0 }] {
             s.extend(ints(&[k as i32]));
             s.extend(self.doubles(k));
         }

@@ -134,16 +134,19 @@ fn list_multipoints(put: Put) {
     }
 }
 
-/// Every run of up to 3 points over these coordinates; runs of 4 that turn, open and closed; a long one.
+/// All x of a run, then all its y.
+fn run_of(points: &[[f64; 2]]) -> Vec<u8> {
+    doubles((0..2).flat_map(|axis| points.iter().map(move |point| point[axis].to_bits())))
+}
+
+/// Every run of up to 3 points over these coordinates; runs of 4 that turn, open and closed; long ones.
 fn list_rings(put: Put) {
     const COORDINATES: [u64; 7] = [0, 1 << 63, 1, 0x3ff0_0000_0000_0000, NAN, 0x7ff0_0000_0000_0000, 0xfff0_0000_0000_0000];
     for points in 0..=3 {
-        lists(&COORDINATES, 2 * points).into_iter().for_each(|xy| put(0, doubles(xy)));
+        lists(&COORDINATES, 2 * points).into_iter().for_each(|run| put(0, doubles(run)));
     }
     let corners = [[0.0, 0.0], [0.0, 1.0], [1.0, 1.0], [-0.0, 0.0]];
-    for order in lists(&corners, 4) {
-        put(0, doubles(order.into_iter().flatten().map(f64::to_bits)));
-    }
+    lists(&corners, 4).iter().for_each(|run| put(0, run_of(run)));
     put(0, doubles((0..64000).map(filler)));
     put(0, doubles((0..64000).map(|i| (i as f64).to_bits())));
 }
@@ -154,7 +157,8 @@ fn shape_of(counts: &[i32], n: usize, z: bool, m: bool, fill: usize) -> Vec<u8> 
     let mut s = doubles((0..8).map(|i| filler(fill + i)));
     s.extend(ints(&[counts.len() as i32]));
     s.extend(ints(counts));
-    s.extend(run(2 * n, fill + 8));
+    s.extend(run(n, fill + 8));
+    s.extend(run(n, fill + 8 + n));
     s.extend(run(if z { n } else { 0 }, fill + 9));
     s.extend(run(if m { n } else { 0 }, fill + 11));
     s
@@ -219,7 +223,6 @@ fn list_min_max(put: Put) {
 
 /// Document 01's examples, and what it calls easy to get wrong.
 pub fn examples(part_number: usize, put: Put) {
-    let run = |xy: &[f64]| doubles(xy.iter().map(|x| x.to_bits()));
     match part_number {
         1 => {
             put(0, header_of(9994, 50, 1000, 3, 0)[..27].to_vec());
@@ -240,10 +243,10 @@ pub fn examples(part_number: usize, put: Put) {
             put(0, body_of(1, i32::MAX, &[-1], 7));
         }
         7 => {
-            let square = [0.0, 0.0, 0.0, 1.0, 1.0, 1.0, 1.0, 0.0, 0.0, 0.0];
-            let reversed: Vec<f64> = square.chunks(2).rev().flatten().copied().collect();
-            for xy in [&square[..], &reversed, &[], &[0.0, 0.0, -5e-324, 1.0]] {
-                put(0, run(xy));
+            let square = [[0.0, 0.0], [0.0, 1.0], [1.0, 1.0], [1.0, 0.0], [0.0, 0.0]];
+            let reversed: Vec<[f64; 2]> = square.iter().rev().copied().collect();
+            for run in [&square[..], &reversed, &[], &[[0.0, 0.0], [-5e-324, 1.0]]] {
+                put(0, run_of(run));
             }
         }
         _ => {}

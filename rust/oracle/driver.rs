@@ -329,8 +329,10 @@ pub struct Body {
     pub bbox: [f64; 4],
     /// The number of points of each part; none for a multipoint.
     pub counts: Vec<usize>,
-    /// x and y of each point in turn.
-    pub xy: Vec<f64>,
+    /// The x of each point.
+    pub x: Vec<f64>,
+    /// The y of each point.
+    pub y: Vec<f64>,
     pub z: Option<Run>,
     pub m: Option<Run>,
 }
@@ -371,7 +373,7 @@ impl Coordinates for PointZ {
     }
 }
 
-/// The crate's box, runs of points and choice of z and m in flat form.
+/// The crate's box, runs of points and choice of z and m in flat form: the points are taken apart.
 fn flat<'a, P, I>(bbox: &GenericBBox<P>, parts: I, z: bool, m: bool) -> Body
 where
     P: Coordinates + 'a,
@@ -379,14 +381,16 @@ where
 {
     let (min, max) = (bbox.min.values(), bbox.max.values());
     let points = parts.clone().flatten().map(P::values);
+    let all = |axis: usize| points.clone().map(|values| values[axis]).collect();
     let run = |axis: usize| Run {
         range: [min[axis], max[axis]],
-        values: points.clone().map(|values| values[axis]).collect(),
+        values: all(axis),
     };
     Body {
         bbox: [min[0], min[1], max[0], max[1]],
         counts: parts.map(<[P]>::len).collect(),
-        xy: points.clone().flat_map(|[x, y, _, _]| [x, y]).collect(),
+        x: all(0),
+        y: all(1),
         z: z.then(|| run(2)),
         m: m.then(|| run(3)),
     }
@@ -395,7 +399,7 @@ where
 /// Whether the stores hold `points` points each.
 fn holds(body: &Body, points: usize) -> bool {
     let run_holds = |run: &Option<Run>| run.as_ref().map_or(true, |run| run.values.len() == points);
-    points.checked_mul(2) == Some(body.xy.len()) && run_holds(&body.z) && run_holds(&body.m)
+    [body.x.len(), body.y.len()] == [points; 2] && run_holds(&body.z) && run_holds(&body.m)
 }
 
 /// Whether the counts sum to the number of points in the stores.
@@ -409,10 +413,9 @@ fn counts_agree(body: &Body) -> bool {
 
 fn points_of<P: Coordinates>(body: &Body) -> Vec<P> {
     let value = |run: &Option<Run>, i: usize| run.as_ref().map_or(0.0, |run| run.values[i]);
-    body.xy
-        .chunks_exact(2)
-        .enumerate()
-        .map(|(i, xy)| P::from_values(xy[0], xy[1], value(&body.z, i), value(&body.m, i)))
+    let pairs = body.x.iter().zip(&body.y).enumerate();
+    pairs
+        .map(|(i, (&x, &y))| P::from_values(x, y, value(&body.z, i), value(&body.m, i)))
         .collect()
 }
 
@@ -700,7 +703,7 @@ pub fn write_multipoint(body: &Body) -> Option<Vec<u8>> {
 
 /// Whether there are no counts, and the stores hold the same number of points.
 fn is_set(body: &Body) -> bool {
-    body.counts.is_empty() && holds(body, body.xy.len() / 2)
+    body.counts.is_empty() && holds(body, body.x.len())
 }
 
 fn multipoint_of<P: Coordinates>(body: &Body) -> GenericMultipoint<P> {
@@ -720,32 +723,31 @@ fn multipoint_body<P: Coordinates>(read: &GenericMultipoint<P>, z: bool, m: bool
 // ---------------------------------------------------------------------------------------------
 // Rings, on x and y
 //
-// Runs are pairs of x and y, an even number of them. The crate is asked with `Point`. Its polygons
-// with m or z ask the same functions with `PointM` and `PointZ`: there closed means that m and z
-// are equal too. The turning looks at x and y alone for all three.
+// A run is its x and its y, as many of each. The crate is asked with `Point`. Its polygons with m or
+// z ask the same functions with `PointM` and `PointZ`: there closed means that m and z are equal
+// too. The turning looks at x and y alone for all three.
 
 /// `is_part_closed`.
-pub fn ring_closed(xy: &[f64]) -> bool {
-    record::is_part_closed(&xy_points(xy))
+pub fn ring_closed(x: &[f64], y: &[f64]) -> bool {
+    record::is_part_closed(&run_of(x, y))
 }
 
-/// `close_points_if_not_already`: the run after closing.
-pub fn ring_close(xy: &[f64]) -> Vec<f64> {
-    let mut points = xy_points(xy);
+/// `close_points_if_not_already`: x and y of the run after closing.
+pub fn ring_close(x: &[f64], y: &[f64]) -> (Vec<f64>, Vec<f64>) {
+    let mut points = run_of(x, y);
     record::close_points_if_not_already(&mut points);
-    points.iter().flat_map(|point| [point.x, point.y]).collect()
+    points.iter().map(|point| (point.x, point.y)).unzip()
 }
 
 /// `ring_type_from_points_ordering`: true for an inner ring, false for an outer one.
-pub fn ring_inner(xy: &[f64]) -> bool {
-    record::ring_type_from_points_ordering(&xy_points(xy)) == RingType::InnerRing
+pub fn ring_inner(x: &[f64], y: &[f64]) -> bool {
+    record::ring_type_from_points_ordering(&run_of(x, y)) == RingType::InnerRing
 }
 
-fn xy_points(xy: &[f64]) -> Vec<Point> {
-    assert!(xy.len() % 2 == 0, "a run of x and y has an even length");
-    xy.chunks_exact(2)
-        .map(|pair| Point::new(pair[0], pair[1]))
-        .collect()
+fn run_of(x: &[f64], y: &[f64]) -> Vec<Point> {
+    assert_eq!(x.len(), y.len(), "a run has as many x as y");
+    let pairs = x.iter().zip(y);
+    pairs.map(|(&x, &y)| Point::new(x, y)).collect()
 }
 
 // ---------------------------------------------------------------------------------------------
@@ -926,7 +928,7 @@ fn constructor_panics(shape: &Shape) -> bool {
     match shape.kind {
         3 | 13 | 23 => counts.is_empty() || counts.iter().any(|count| *count < 2),
         5 | 15 | 25 => counts.first().map_or(true, |count| *count == 0),
-        8 | 18 | 28 => shape.body.xy.is_empty(),
+        8 | 18 | 28 => shape.body.x.is_empty(),
         _ => false,
     }
 }

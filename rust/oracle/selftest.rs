@@ -77,6 +77,12 @@ fn rising(count: usize) -> Vec<f64> {
     (1..=count).map(|i| i as f64).collect()
 }
 
+/// The x and the y of so many points: 1 and 2, 3 and 4 ..
+fn rising_points(count: usize) -> (Vec<f64>, Vec<f64>) {
+    let pairs = rising(2 * count);
+    pairs.chunks(2).map(|pair| (pair[0], pair[1])).unzip()
+}
+
 fn header_bytes(code: i32, file_length: i32, kind: i32) -> Vec<u8> {
     let mut bytes = big_numbers(&[code, 1, 2, 3, 4, 5, file_length]);
     bytes.extend(numbers(&[7, kind]));
@@ -194,47 +200,52 @@ fn parts(checks: &mut Checks) {
     checks.same("MAX to MIN", part_count(MAX, MIN), None);
 }
 
-fn counts_and_xy(n: i32, starts: &[i32], pairs: usize) -> Result<(Vec<usize>, Vec<f64>), Refusal> {
+/// Part counts, x and y.
+type Apart = (Vec<usize>, Vec<f64>, Vec<f64>);
+
+fn counts_x_y(n: i32, starts: &[i32], pairs: usize) -> Result<Apart, Refusal> {
     let bytes = body_bytes(n, starts, &rising(2 * pairs));
-    read_body(&bytes, false, false).map(|body| (body.counts, body.xy))
+    read_body(&bytes, false, false).map(|body| (body.counts, body.x, body.y))
+}
+
+/// These counts, and the first so many points.
+fn counts_and_first(counts: &[usize], points: usize) -> Result<Apart, Refusal> {
+    let (x, y) = rising_points(points);
+    Ok((counts.to_vec(), x, y))
 }
 
 fn body_examples(checks: &mut Checks) {
     checks.same(
         "starts 0, 2",
-        counts_and_xy(5, &[0, 2], 5),
-        Ok((vec![2, 3], rising(10))),
+        counts_x_y(5, &[0, 2], 5),
+        counts_and_first(&[2, 3], 5),
     );
-    checks.same(
-        "start 3",
-        counts_and_xy(5, &[3], 5),
-        Ok((vec![2], rising(4))),
-    );
+    checks.same("start 3", counts_x_y(5, &[3], 5), counts_and_first(&[2], 2));
     checks.same(
         "start -2",
-        counts_and_xy(5, &[-2], 7),
-        Ok((vec![7], rising(14))),
+        counts_x_y(5, &[-2], 7),
+        counts_and_first(&[7], 7),
     );
-    checks.same("no part", counts_and_xy(5, &[], 5), Ok((vec![], vec![])));
+    checks.same("no part", counts_x_y(5, &[], 5), counts_and_first(&[], 0));
     checks.same(
         "starts 0, 4, 2",
-        counts_and_xy(5, &[0, 4, 2], 5),
+        counts_x_y(5, &[0, 4, 2], 5),
         Err(Refusal::Size(44)),
     );
     checks.same(
         "starts 0, 4, 2 with part 0 cut",
-        counts_and_xy(5, &[0, 4, 2], 3),
+        counts_x_y(5, &[0, 4, 2], 3),
         Err(Refusal::Short(52 + 3 * 16)),
     );
     checks.same(
         "start -1, n MAX",
-        counts_and_xy(MAX, &[-1], 0),
+        counts_x_y(MAX, &[-1], 0),
         Err(Refusal::Size(40)),
     );
     checks.same(
         "empty parts",
-        counts_and_xy(2, &[1, 1, 1], 1),
-        Ok((vec![0, 0, 1], rising(2))),
+        counts_x_y(2, &[1, 1, 1], 1),
+        counts_and_first(&[0, 0, 1], 1),
     );
 }
 
@@ -279,26 +290,27 @@ fn body_runs(checks: &mut Checks) {
         Ok(Body {
             bbox: [0.5, 1.5, 2.5, 3.5],
             counts: vec![1, 2],
-            xy: rising(6),
+            x: vec![1.0, 3.0, 5.0],
+            y: vec![2.0, 4.0, 6.0],
             z,
             m,
         })
     };
     let first = run([7.0, 8.0], [9.0, 10.0, 11.0]);
     let second = run([12.0, 13.0], [14.0, 15.0, 16.0]);
-    checks.same("xy", read_body(&bytes, false, false), body(None, None));
+    checks.same("x, y", read_body(&bytes, false, false), body(None, None));
     checks.same(
-        "xy, m",
+        "x, y, m",
         read_body(&bytes, false, true),
         body(None, first.clone()),
     );
     checks.same(
-        "xy, z",
+        "x, y, z",
         read_body(&bytes, true, false),
         body(first.clone(), None),
     );
     checks.same(
-        "xy, z, m",
+        "x, y, z, m",
         read_body(&bytes, true, true),
         body(first, second),
     );
@@ -385,35 +397,43 @@ fn reserved(checks: &mut Checks) {
 }
 
 fn rings(checks: &mut Checks) {
-    let square = [0.0, 0.0, 0.0, 1.0, 1.0, 1.0, 1.0, 0.0, 0.0, 0.0];
-    let reversed = [0.0, 0.0, 1.0, 0.0, 1.0, 1.0, 0.0, 1.0, 0.0, 0.0];
-    checks.holds("square is outer", !ring_inner(&square));
-    checks.holds("reversed square is inner", ring_inner(&reversed));
-    checks.holds("empty run is outer", !ring_inner(&[]));
-    checks.holds("halving", !ring_inner(&[0.0, 0.0, -LEAST, 1.0]));
-    checks.holds("twice as much", ring_inner(&[0.0, 0.0, -2.0 * LEAST, 1.0]));
-    checks.holds("NaN is outer", !ring_inner(&[0.0, 0.0, f64::NAN, 1.0]));
+    let (x, y) = ([0.0, 0.0, 1.0, 1.0, 0.0], [0.0, 1.0, 1.0, 0.0, 0.0]);
+    checks.holds("square is outer", !ring_inner(&x, &y));
+    checks.holds("reversed square is inner", ring_inner(&y, &x));
+    checks.holds("empty run is outer", !ring_inner(&[], &[]));
+    let up = [0.0, 1.0];
+    checks.holds("halving", !ring_inner(&[0.0, -LEAST], &up));
+    checks.holds("twice as much", ring_inner(&[0.0, -2.0 * LEAST], &up));
+    checks.holds("NaN is outer", !ring_inner(&[0.0, f64::NAN], &up));
 
-    let nan = [f64::NAN, 0.0];
-    checks.holds("square is closed", ring_closed(&square));
-    checks.holds("open", !ring_closed(&square[..8]));
-    checks.holds("empty run is not closed", !ring_closed(&[]));
-    checks.holds("one point is closed", ring_closed(&[1.0, 2.0]));
-    checks.holds("one point with NaN is not", !ring_closed(&nan));
+    let nan = f64::NAN;
+    checks.holds("square is closed", ring_closed(&x, &y));
+    checks.holds("open", !ring_closed(&x[..4], &y[..4]));
+    checks.holds("empty run is not closed", !ring_closed(&[], &[]));
+    checks.holds("one point is closed", ring_closed(&[1.0], &[2.0]));
+    checks.holds("one point with NaN is not", !ring_closed(&[nan], &[0.0]));
+    checks.holds("x alone closes nothing", !ring_closed(&[0.0; 2], &up));
+    checks.holds("nor y", !ring_closed(&up, &[0.0; 2]));
     checks.holds(
         "zeros of both signs",
-        ring_closed(&[0.0, 1.0, 5.0, 5.0, -0.0, 1.0]),
+        ring_closed(&[0.0, 5.0, -0.0], &[1.0, 5.0, 1.0]),
     );
 
-    checks.same_bits("closing", &ring_close(&square[..8]), &square);
-    checks.same_bits("closing a closed run", &ring_close(&square), &square);
-    checks.same_bits("closing no run", &ring_close(&[]), &[]);
-    checks.same_bits("closing NaN", &ring_close(&nan), &[nan, nan].concat());
+    let mut closes = |of: &str, x: &[f64], y: &[f64], closed_x: &[f64], closed_y: &[f64]| {
+        let (found_x, found_y) = ring_close(x, y);
+        checks.same_bits(of, &found_x, closed_x);
+        checks.same_bits(of, &found_y, closed_y);
+    };
+    closes("closing", &x[..4], &y[..4], &x, &y);
+    closes("closing a closed run", &x, &y, &x, &y);
+    closes("closing no run", &[], &[], &[], &[]);
+    closes("closing NaN", &[nan], &[0.0], &[nan; 2], &[0.0; 2]);
 }
 
 /// A body with these counts, box 0.5 .. 3.5 and rising numbers.
 fn rising_body(counts: &[usize], z: bool, m: bool) -> Body {
     let points = counts.iter().sum();
+    let (x, y) = rising_points(points);
     let run = || Run {
         range: [-1.0, -2.0],
         values: rising(points),
@@ -421,7 +441,8 @@ fn rising_body(counts: &[usize], z: bool, m: bool) -> Body {
     Body {
         bbox: [0.5, 1.5, 2.5, 3.5],
         counts: counts.to_vec(),
-        xy: rising(2 * points),
+        x,
+        y,
         z: z.then(run),
         m: m.then(run),
     }
@@ -454,6 +475,11 @@ fn written_bodies(checks: &mut Checks) {
     let mut odd = rising_body(&[2], false, false);
     odd.counts = vec![3];
     checks.same("counts that disagree", write_body(&odd), None);
+    for counts in [2, 3] {
+        odd.counts = vec![counts];
+        odd.x = rising(3);
+        checks.same("more x than y", write_body(&odd), None);
+    }
 }
 
 /// A shape with these counts; for a point kind one point and no counts.
@@ -523,7 +549,7 @@ fn files_of_all_kinds(checks: &mut Checks) {
         let mut at = 100;
         for (i, shape) in shapes.iter().enumerate() {
             let p = shape.body.counts.len() as i32;
-            let n = shape.body.xy.len() as i32 / 2;
+            let n = shape.body.x.len() as i32;
             let expected = words(code, p, n, true);
             let number = i as i32 + 1;
             checks.same(
@@ -704,7 +730,8 @@ fn multipoints(checks: &mut Checks) {
             checks.same("a size below", read(2 * least - 2), Err(Refusal::Size(0)));
             if m {
                 let lacks = read(2 * least).unwrap();
-                checks.same("xy", lacks.xy, body.xy.clone());
+                checks.same("x", lacks.x, body.x.clone());
+                checks.same("y", lacks.y, body.y.clone());
                 checks.same("z", lacks.z, body.z.clone());
                 let m = lacks.m.unwrap();
                 checks.same("no m", m.values, vec![NO_DATA; points]);
@@ -876,14 +903,15 @@ fn null_shapes(checks: &mut Checks) {
 
 fn constructors(checks: &mut Checks) {
     let mut line = rising_shape(23, &[2, 2]);
-    line.body.xy = vec![4.0, -1.0, 2.0, 7.0, 3.0, 3.0, 9.0, 0.0];
+    line.body.x = vec![4.0, 2.0, 3.0, 9.0];
+    line.body.y = vec![-1.0, 7.0, 3.0, 0.0];
     let made = constructed(&line).unwrap().body;
     checks.same("box of the points", made.bbox, [2.0, -1.0, 9.0, 7.0]);
     checks.same("m range of the points", made.m.unwrap().range, [1.0, 4.0]);
     checks.same(
         "line untouched",
-        (made.counts, made.xy),
-        (vec![2, 2], line.body.xy),
+        (made.counts, made.x, made.y),
+        (vec![2, 2], line.body.x, line.body.y),
     );
     checks.same("no part", constructed(&rising_shape(3, &[])), None);
     checks.same(
@@ -903,14 +931,16 @@ fn constructors(checks: &mut Checks) {
     );
     // Closing turns this outer run into an inner one, so it is reversed.
     let mut ring = rising_shape(5, &[3]);
-    ring.body.xy = vec![0.0, 1.0, 1.0, 1.0, 1.0, 3.0];
-    checks.holds("open: outer", !ring_inner(&ring.body.xy));
-    checks.holds("closed: inner", ring_inner(&ring_close(&ring.body.xy)));
+    ring.body.x = vec![0.0, 1.0, 1.0];
+    ring.body.y = vec![1.0, 1.0, 3.0];
+    let (x, y) = ring_close(&ring.body.x, &ring.body.y);
+    checks.holds("open: outer", !ring_inner(&ring.body.x, &ring.body.y));
+    checks.holds("closed: inner", ring_inner(&x, &y));
     let made = constructed(&ring).unwrap().body;
     checks.same(
         "closed and reversed",
-        made.xy,
-        vec![0.0, 1.0, 1.0, 3.0, 1.0, 1.0, 0.0, 1.0],
+        (made.x, made.y),
+        (vec![0.0, 1.0, 1.0, 0.0], vec![1.0, 3.0, 1.0, 1.0]),
     );
 }
 

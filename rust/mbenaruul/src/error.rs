@@ -54,7 +54,8 @@ pub enum Error {
     /// 9: a kind that is not read or written: a multipatch; and Null, where it is wanted of a read, or
     /// would be the first record that is written.
     NotTaken(i32),
-    /// 10: tables that disagree in length, or a table of a Null record that is not empty.
+    /// 10: tables that disagree in length, or a table of a Null record that is not empty; a run of
+    /// points that goes past x or past y.
     Tables,
 }
 

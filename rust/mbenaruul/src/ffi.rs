@@ -108,7 +108,8 @@ pub struct Told {
 #[derive(Default)]
 pub struct Stores {
     pub counts: Vec<u32>,
-    pub xy: Vec<f64>,
+    pub x: Vec<f64>,
+    pub y: Vec<f64>,
     pub z: Vec<f64>,
     pub m: Vec<f64>,
 }
@@ -132,8 +133,10 @@ extern "C" {
         size: Bytes,
         counts: *mut u32,
         counts_n: usize,
-        xy: *mut f64,
-        xy_n: usize,
+        x: *mut f64,
+        x_n: usize,
+        y: *mut f64,
+        y_n: usize,
         z: *mut f64,
         z_n: usize,
         m: *mut f64,
@@ -146,8 +149,10 @@ extern "C" {
         size: Bytes,
         counts: *mut u32,
         counts_n: usize,
-        xy: *mut f64,
-        xy_n: usize,
+        x: *mut f64,
+        x_n: usize,
+        y: *mut f64,
+        y_n: usize,
         z: *mut f64,
         z_n: usize,
         m: *mut f64,
@@ -166,8 +171,10 @@ extern "C" {
         bbox: BBoxZ,
         counts: *const u32,
         counts_n: usize,
-        xy: *const f64,
-        xy_n: usize,
+        x: *const f64,
+        x_n: usize,
+        y: *const f64,
+        y_n: usize,
         z: *const f64,
         z_n: usize,
         m: *const f64,
@@ -179,9 +186,27 @@ extern "C" {
         entry_n: usize,
     ) -> Added;
     fn mbenaruul_finish(state: State) -> Finished;
-    fn mbenaruul_is_part_closed(xy: *const f64, n: usize) -> Told;
-    fn mbenaruul_ring_type_from_points_ordering(xy: *const f64, n: usize) -> Told;
-    fn mbenaruul_close_points_if_not_already(store: *mut f64, n: usize, run: usize) -> Told;
+    fn mbenaruul_is_part_closed(
+        x: *const f64,
+        x_n: usize,
+        y: *const f64,
+        y_n: usize,
+        n: usize,
+    ) -> Told;
+    fn mbenaruul_ring_type_from_points_ordering(
+        x: *const f64,
+        x_n: usize,
+        y: *const f64,
+        y_n: usize,
+        n: usize,
+    ) -> Told;
+    fn mbenaruul_close_points_if_not_already(
+        x: *mut f64,
+        x_n: usize,
+        y: *mut f64,
+        y_n: usize,
+        n: usize,
+    ) -> Told;
 }
 
 pub fn read_header(bytes: &[u8]) -> HeaderRead {
@@ -200,8 +225,8 @@ pub fn read_index_entry(bytes: &[u8]) -> IndexEntryRead {
 }
 
 pub fn read_record(content: &[u8], size: Bytes, stores: &mut Stores) -> RecordRead {
-    let Stores { counts, xy, z, m } = stores;
-    // SAFETY: the content is only read; the stores are four vectors apart from each other, lent
+    let Stores { counts, x, y, z, m } = stores;
+    // SAFETY: the content is only read; the stores are five vectors apart from each other, lent
     // alone for the call, each with its own length.
     unsafe {
         mbenaruul_read_record(
@@ -210,8 +235,10 @@ pub fn read_record(content: &[u8], size: Bytes, stores: &mut Stores) -> RecordRe
             size,
             counts.as_mut_ptr(),
             counts.len(),
-            xy.as_mut_ptr(),
-            xy.len(),
+            x.as_mut_ptr(),
+            x.len(),
+            y.as_mut_ptr(),
+            y.len(),
             z.as_mut_ptr(),
             z.len(),
             m.as_mut_ptr(),
@@ -221,7 +248,7 @@ pub fn read_record(content: &[u8], size: Bytes, stores: &mut Stores) -> RecordRe
 }
 
 pub fn read_record_of(wanted: i32, content: &[u8], size: Bytes, stores: &mut Stores) -> RecordRead {
-    let Stores { counts, xy, z, m } = stores;
+    let Stores { counts, x, y, z, m } = stores;
     // SAFETY: as for `read_record`; the wanted kind may be any number.
     unsafe {
         mbenaruul_read_record_of(
@@ -231,8 +258,10 @@ pub fn read_record_of(wanted: i32, content: &[u8], size: Bytes, stores: &mut Sto
             size,
             counts.as_mut_ptr(),
             counts.len(),
-            xy.as_mut_ptr(),
-            xy.len(),
+            x.as_mut_ptr(),
+            x.len(),
+            y.as_mut_ptr(),
+            y.len(),
             z.as_mut_ptr(),
             z.len(),
             m.as_mut_ptr(),
@@ -267,8 +296,10 @@ pub fn add_record(
             tables.bbox,
             tables.counts.as_ptr(),
             tables.counts.len(),
-            tables.xy.as_ptr(),
-            tables.xy.len(),
+            tables.x.as_ptr(),
+            tables.x.len(),
+            tables.y.as_ptr(),
+            tables.y.len(),
             tables.z.as_ptr(),
             tables.z.len(),
             tables.m.as_ptr(),
@@ -287,17 +318,21 @@ pub fn finish(state: State) -> Finished {
     unsafe { mbenaruul_finish(state) }
 }
 
-pub fn is_part_closed(xy: &[f64]) -> Told {
-    // SAFETY: the slice is lent for the call, with its own length, and only read.
-    unsafe { mbenaruul_is_part_closed(xy.as_ptr(), xy.len()) }
+pub fn is_part_closed(x: &[f64], y: &[f64], n: usize) -> Told {
+    // SAFETY: both slices are lent for the call, each with its own length, and only read; the run
+    // may be any number of points.
+    unsafe { mbenaruul_is_part_closed(x.as_ptr(), x.len(), y.as_ptr(), y.len(), n) }
 }
 
-pub fn ring_type_from_points_ordering(xy: &[f64]) -> Told {
-    // SAFETY: the slice is lent for the call, with its own length, and only read.
-    unsafe { mbenaruul_ring_type_from_points_ordering(xy.as_ptr(), xy.len()) }
+pub fn ring_type_from_points_ordering(x: &[f64], y: &[f64], n: usize) -> Told {
+    // SAFETY: as for `is_part_closed`.
+    unsafe { mbenaruul_ring_type_from_points_ordering(x.as_ptr(), x.len(), y.as_ptr(), y.len(), n) }
 }
 
-pub fn close_points_if_not_already(store: &mut [f64], run: usize) -> Told {
-    // SAFETY: the slice is lent alone for the call, with its own length; the run may be any number.
-    unsafe { mbenaruul_close_points_if_not_already(store.as_mut_ptr(), store.len(), run) }
+pub fn close_points_if_not_already(x: &mut [f64], y: &mut [f64], n: usize) -> Told {
+    // SAFETY: both slices are lent alone for the call, each with its own length; the run may be any
+    // number of points.
+    unsafe {
+        mbenaruul_close_points_if_not_already(x.as_mut_ptr(), x.len(), y.as_mut_ptr(), y.len(), n)
+    }
 }

@@ -12,6 +12,7 @@
 //! | write a pair | [`Writer`], with [`Tables::with_true_bbox`] for shapes without a box |
 //! | write what was read | [`Writer::add_record`], or [`Record::tables`] to change something first |
 //! | read a header, an index entry or a record by itself | [`read_header`], [`read_record_header`], [`read_index_entry`], [`read_record`] |
+//! | go over points as pairs | [`Shape::points`], [`Multipoint::points`]; [`points`] of any x and y |
 //! | test or close rings | [`is_part_closed`], [`close_points_if_not_already`], [`ring_type_from_points_ordering`] |
 //!
 //! A plan of two shelf runs, written and checked; then two entries of its index are exchanged,
@@ -26,7 +27,8 @@
 //!     let run = Tables {
 //!         kind: kind::POLYLINE,
 //!         counts: &[2], // one part of two points
-//!         xy: &[0.0, y, 9.0, y],
+//!         x: &[0.0, 9.0],
+//!         y: &[y, y],
 //!         ..Tables::default()
 //!     };
 //!     writer.add(&run.with_true_bbox())?;
@@ -50,7 +52,9 @@
 //! # }
 //! ```
 //!
-//! Kinds are the codes that stand in files, by name in [`kind`].
+//! Kinds are the codes that stand in files, by name in [`kind`]. The coordinates of a shape stand in
+//! two stores, all x and all y, in the order of the points, so that one can be gone over without the
+//! other; [`points`] gives them as pairs.
 //!
 //! The turning of rings ([`ring_type_from_points_ordering`]) computes with doubles and assumes the
 //! processor's default floating-point mode, as Rust does: round to nearest, and denormal numbers

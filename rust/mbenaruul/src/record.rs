@@ -22,8 +22,10 @@ pub enum Record {
     Point {
         /// One of the three point kinds.
         kind: i32,
-        /// x and y, as in the file.
-        xy: [f64; 2],
+        /// x, as in the file.
+        x: f64,
+        /// y, as in the file.
+        y: f64,
         /// As in the file, where the kind has z.
         z: Option<f64>,
         /// As in the file, where the kind has m.
@@ -44,10 +46,11 @@ pub enum Record {
 ///
 /// # fn main() -> Result<(), mbenaruul::Error> {
 /// let mut writer = Writer::new();
-/// for xy in [&[1.0, 2.0][..], &[5.0, 2.0, 7.0, 4.0]] {
+/// for (x, y) in [(&[1.0][..], &[2.0][..]), (&[5.0, 7.0], &[2.0, 4.0])] {
 ///     let drops = Tables {
 ///         kind: kind::MULTIPOINT,
-///         xy, // no part counts: as many points as there are pairs
+///         x, // no part counts: as many points as there are x, and as many y
+///         y,
 ///         ..Tables::default()
 ///     };
 ///     writer.add(&drops.with_true_bbox())?;
@@ -73,8 +76,10 @@ pub struct Multipoint {
     pub z_range: Option<Range>,
     /// The range of m, as in the file, where the record has m.
     pub m_range: Option<Range>,
-    /// The points: x0 y0 x1 y1 ..
-    pub xy: Vec<f64>,
+    /// The x of each point.
+    pub x: Vec<f64>,
+    /// The y of each point.
+    pub y: Vec<f64>,
     /// One z for each point, where the kind has z; else none.
     pub z: Vec<f64>,
     /// One m for each point, where the record has m; else none. A value below [`NO_DATA`], or one
@@ -95,8 +100,10 @@ pub struct Shape {
     pub m_range: Option<Range>,
     /// The number of points of each part.
     pub counts: Vec<u32>,
-    /// The points of all parts in turn: x0 y0 x1 y1 ..
-    pub xy: Vec<f64>,
+    /// The x of each point, of all parts in turn.
+    pub x: Vec<f64>,
+    /// The y of each point, of all parts in turn.
+    pub y: Vec<f64>,
     /// One z for each point, where the kind has z; else none.
     pub z: Vec<f64>,
     /// One m for each point, where the record has m; else none. A value below [`NO_DATA`], or one
@@ -164,9 +171,9 @@ impl Record {
         if self.lacks_m() {
             match &mut self {
                 Record::Multipoint(points) => {
-                    fill_m(&points.xy, &mut points.m_range, &mut points.m)
+                    fill_m(points.x.len(), &mut points.m_range, &mut points.m)
                 }
-                Record::Parts(shape) => fill_m(&shape.xy, &mut shape.m_range, &mut shape.m),
+                Record::Parts(shape) => fill_m(shape.x.len(), &mut shape.m_range, &mut shape.m),
                 Record::Null | Record::Point { .. } => {}
             }
         }
@@ -179,9 +186,10 @@ impl Record {
     pub fn tables(&self) -> Tables<'_> {
         match self {
             Record::Null => Tables::default(),
-            Record::Point { kind, xy, z, m } => Tables {
+            Record::Point { kind, x, y, z, m } => Tables {
                 kind: *kind,
-                xy,
+                x: slice::from_ref(x),
+                y: slice::from_ref(y),
                 z: z.as_ref().map_or(&[], slice::from_ref),
                 m: m.as_ref().map_or(&[], slice::from_ref),
                 ..Tables::default()
@@ -193,9 +201,12 @@ impl Record {
 }
 
 impl Multipoint {
-    /// The points, as pairs of x and y.
-    pub fn points(&self) -> impl DoubleEndedIterator<Item = [f64; 2]> + ExactSizeIterator + '_ {
-        rings::points(&self.xy)
+    /// The points, as pairs of x and y: [`points`](crate::points) of both stores, which costs
+    /// nothing.
+    pub fn points(
+        &self,
+    ) -> impl DoubleEndedIterator<Item = [f64; 2]> + ExactSizeIterator + Clone + '_ {
+        rings::points(&self.x, &self.y)
     }
 
     /// As [`Record::lacks_m`].
@@ -209,7 +220,8 @@ impl Multipoint {
             kind: self.kind,
             bbox: sides(self.bbox, self.z_range, self.m_range),
             counts: &[],
-            xy: &self.xy,
+            x: &self.x,
+            y: &self.y,
             z: &self.z,
             m: &self.m,
         }
@@ -217,20 +229,25 @@ impl Multipoint {
 }
 
 impl Shape {
-    /// The points of all parts in turn, as pairs of x and y.
-    pub fn points(&self) -> impl DoubleEndedIterator<Item = [f64; 2]> + ExactSizeIterator + '_ {
-        rings::points(&self.xy)
+    /// The points of all parts in turn, as pairs of x and y: [`points`](crate::points) of both
+    /// stores, which costs nothing.
+    pub fn points(
+        &self,
+    ) -> impl DoubleEndedIterator<Item = [f64; 2]> + ExactSizeIterator + Clone + '_ {
+        rings::points(&self.x, &self.y)
     }
 
-    /// The run x0 y0 x1 y1 .. of each part in turn, which [`points`](crate::points) gives as pairs:
-    /// as many points as the part's count says, or as are left in a shape that was not read but put
-    /// together.
-    pub fn parts(&self) -> impl ExactSizeIterator<Item = &[f64]> + '_ {
-        let mut rest = &self.xy[..];
+    /// The x and the y of each part in turn, which [`points`](crate::points) gives as pairs: as many
+    /// of each as the part's count says, or as are left in a shape that was not read but put
+    /// together. Both are slices of the stores, and of one length.
+    pub fn parts(&self) -> impl ExactSizeIterator<Item = (&[f64], &[f64])> + Clone + '_ {
+        let points = self.points().len();
+        let (mut x, mut y) = (&self.x[..points], &self.y[..points]);
         self.counts.iter().map(move |&count| {
-            let (part, after) = rest.split_at(rest.len().min(2 * count as usize));
-            rest = after;
-            part
+            let count = x.len().min(count as usize);
+            let (part_x, part_y) = (&x[..count], &y[..count]);
+            (x, y) = (&x[count..], &y[count..]);
+            (part_x, part_y)
         })
     }
 
@@ -245,7 +262,8 @@ impl Shape {
             kind: self.kind,
             bbox: sides(self.bbox, self.z_range, self.m_range),
             counts: &self.counts,
-            xy: &self.xy,
+            x: &self.x,
+            y: &self.y,
             z: &self.z,
             m: &self.m,
         }
@@ -253,8 +271,8 @@ impl Shape {
 }
 
 /// Each of the points has no data, and so has the range.
-fn fill_m(xy: &[f64], m_range: &mut Option<Range>, m: &mut Vec<f64>) {
-    *m = vec![NO_DATA; xy.len() / 2];
+fn fill_m(points: usize, m_range: &mut Option<Range>, m: &mut Vec<f64>) {
+    *m = vec![NO_DATA; points];
     *m_range = Some(Range::NO_DATA);
 }
 
@@ -305,7 +323,8 @@ fn stores_for(content: &[u8], parts: usize, points: usize) -> Stores {
     );
     Stores {
         counts: vec![0; parts],
-        xy: vec![0.0; 2 * points],
+        x: vec![0.0; points],
+        y: vec![0.0; points],
         z: vec![0.0; points],
         m: vec![0.0; points],
     }
@@ -324,7 +343,8 @@ fn record_of(read: ffi::RecordRead, stores: Stores) -> Record {
 fn point_of(kind: i32, point: ffi::Point) -> Record {
     Record::Point {
         kind,
-        xy: [point.x, point.y],
+        x: point.x,
+        y: point.y,
         z: kind::has_z(kind).then_some(point.z),
         m: kind::has_m(kind).then_some(point.m),
     }
@@ -337,7 +357,8 @@ fn multipoint_of(read: ffi::RecordRead, stores: Stores) -> Multipoint {
         bbox: shape.bbox,
         z_range: shape.z_range,
         m_range: shape.m_range,
-        xy: shape.xy,
+        x: shape.x,
+        y: shape.y,
         z: shape.z,
         m: shape.m,
     }
@@ -354,7 +375,8 @@ fn shape_of(read: ffi::RecordRead, stores: Stores) -> Shape {
         z_range,
         m_range,
         counts: stores.counts,
-        xy: stores.xy,
+        x: stores.x,
+        y: stores.y,
         z,
         m,
     }
@@ -366,5 +388,97 @@ fn measure(there: bool, range: Range, values: Vec<f64>) -> (Option<Range>, Vec<f
         (Some(range), values)
     } else {
         (None, Vec::new())
+    }
+}
+
+#[cfg(test)]
+mod tests {
+    use super::*;
+    use crate::writer::Writer;
+
+    /// Stands in every entry of a store before a call, and in no record here.
+    const UNTOUCHED: f64 = 77.0;
+
+    /// Stores of these lengths: counts, x, y, z, m.
+    fn stores([counts, x, y, z, m]: [usize; 5]) -> Stores {
+        Stores {
+            counts: vec![UNTOUCHED as u32; counts],
+            x: vec![UNTOUCHED; x],
+            y: vec![UNTOUCHED; y],
+            z: vec![UNTOUCHED; z],
+            m: vec![UNTOUCHED; m],
+        }
+    }
+
+    /// What stands in each store behind its first so many entries is as it was.
+    fn is_untouched_behind(stores: &Stores, used: [usize; 5]) -> bool {
+        let Stores { counts, x, y, z, m } = stores;
+        let doubles = |values: &[f64], used| values[used..].iter().all(|&v| v == UNTOUCHED);
+        counts[used[0]..].iter().all(|&c| c == UNTOUCHED as u32)
+            && [x, y, z, m]
+                .into_iter()
+                .zip(&used[1..])
+                .all(|(values, &used)| doubles(values, used))
+    }
+
+    /// The content of a record of three points, in two parts where the kind has parts, and how many
+    /// entries each store takes of it.
+    fn three_points(kind: i32) -> (Vec<u8>, [usize; 5]) {
+        let measure = |there| if there { &[1.0, 2.0, 3.0][..] } else { &[] };
+        let tables = Tables {
+            kind,
+            counts: if kind::has_parts(kind) { &[2, 1] } else { &[] },
+            x: &[4.0, 5.0, 6.0],
+            y: &[7.0, 8.0, 9.0],
+            z: measure(kind::has_z(kind)),
+            m: measure(kind::has_m(kind)),
+            ..Tables::default()
+        };
+        let mut writer = Writer::new();
+        writer.add(&tables).unwrap();
+        let (shp, _) = writer.finish().unwrap();
+        let used = [
+            tables.counts.len(),
+            tables.x.len(),
+            tables.y.len(),
+            tables.z.len(),
+            tables.m.len(),
+        ];
+        (shp[108..].to_vec(), used)
+    }
+
+    #[test]
+    fn each_store_needs_its_own_room_and_a_refusal_touches_none() {
+        for kind in [3, 23, 13, 5, 25, 15, 8, 28, 18] {
+            let (content, used) = three_points(kind);
+            let size = Bytes(content.len() as i64);
+            for wanted in [None, Some(kind)] {
+                let said = |lengths| {
+                    let mut lent = stores(lengths);
+                    let read = ask(&content, size, wanted, &mut lent);
+                    (read.refusal.into_result(), lent)
+                };
+                let (taken, just) = said(used);
+                assert_eq!(taken, Ok(()), "{kind}");
+                assert_eq!((just.x, just.y), (vec![4., 5., 6.], vec![7., 8., 9.]));
+                let (taken, behind) = said(used.map(|length| length + 1));
+                assert_eq!(taken, Ok(()), "{kind}");
+                assert!(is_untouched_behind(&behind, used), "{kind}");
+                let room = Err(Error::Room {
+                    first: used[0],
+                    second: 3,
+                });
+                // one too short alone, and with more than enough in all others
+                for short in (0..5).filter(|&short| used[short] > 0) {
+                    for more in [0, 1, 9] {
+                        let mut lengths = used.map(|length| length + more);
+                        lengths[short] = used[short] - 1;
+                        let (refused, lent) = said(lengths);
+                        assert_eq!(refused, room, "{kind}: {lengths:?}");
+                        assert!(is_untouched_behind(&lent, [0; 5]), "{kind}: {lengths:?}");
+                    }
+                }
+            }
+        }
     }
 }

@@ -5,9 +5,9 @@ use crate::ffi;
 use crate::header::BBoxZ;
 use crate::record::{Range, Record};
 
-/// A shape to write, in flat tables. The part counts sum to the number of points, n; xy holds 2n
-/// doubles; z and m hold n where the kind has them, else none. A point kind has no parts and n is
-/// 1; a multipoint has no parts and any n. A Null has nothing in any table: the default is one.
+/// A shape to write, in flat tables. The part counts sum to the number of points, n; x and y hold n
+/// doubles each; z and m hold n where the kind has them, else none. A point kind has no parts and n
+/// is 1; a multipoint has no parts and any n. A Null has nothing in any table: the default is one.
 ///
 /// The tables of a record that was read are [`Record::tables`].
 #[derive(Debug, Clone, Copy, Default, PartialEq)]
@@ -20,8 +20,10 @@ pub struct Tables<'a> {
     pub bbox: BBoxZ,
     /// The number of points of each part; none for a point or a multipoint.
     pub counts: &'a [u32],
-    /// The points: x0 y0 x1 y1 ..
-    pub xy: &'a [f64],
+    /// The x of each point; with y, [`points`](crate::points) gives them as pairs.
+    pub x: &'a [f64],
+    /// The y of each point.
+    pub y: &'a [f64],
     /// One z for each point.
     pub z: &'a [f64],
     /// One m for each point.
@@ -35,9 +37,8 @@ impl Tables<'_> {
     /// -10^38. Where no value is left, both ends are 0; but where there are m, and none is data, both
     /// are [`NO_DATA`](crate::NO_DATA).
     pub fn true_bbox(&self) -> BBoxZ {
-        let axis = |first| range_of(self.xy.iter().skip(first).step_by(2)).unwrap_or_default();
-        let (x, y) = (axis(0), axis(1));
-        let z = range_of(self.z.iter()).unwrap_or_default();
+        let range = |values: &[f64]| range_of(values.iter()).unwrap_or_default();
+        let (x, y, z) = (range(self.x), range(self.y), range(self.z));
         let none = if self.m.is_empty() {
             Range::default()
         } else {
@@ -99,7 +100,8 @@ fn range_of<'a>(values: impl Iterator<Item = &'a f64> + Clone) -> Option<Range> 
 /// let run = Tables {
 ///     kind: kind::POLYLINE,
 ///     counts: &[2],
-///     xy: &[0.0, 0.0, 9.0, 0.0],
+///     x: &[0.0, 9.0],
+///     y: &[0.0, 0.0],
 ///     ..Tables::default()
 /// };
 /// let mut writer = Writer::new();
@@ -203,7 +205,8 @@ mod tests {
             mmax: 0.0,
         },
         counts: &[2],
-        xy: &[0.0, 0.0, 1.0, 1.0],
+        x: &[0.0, 1.0],
+        y: &[0.0, 1.0],
         z: &[],
         m: &[],
     };
@@ -237,17 +240,19 @@ mod tests {
     const NULL: Tables<'_> = Tables {
         kind: kind::NULL,
         counts: &[],
-        xy: &[],
+        x: &[],
+        y: &[],
         ..SEGMENT
     };
 
-    /// The same with one entry in one of the four tables.
-    const NOT_EMPTY: [Tables<'_>; 4] = [
+    /// The same with one entry in one of the five tables.
+    const NOT_EMPTY: [Tables<'_>; 5] = [
         Tables {
             counts: &[0],
             ..NULL
         },
-        Tables { xy: &[0.0], ..NULL },
+        Tables { x: &[0.0], ..NULL },
+        Tables { y: &[0.0], ..NULL },
         Tables { z: &[0.0], ..NULL },
         Tables { m: &[0.0], ..NULL },
     ];
@@ -304,6 +309,42 @@ mod tests {
         let added = ffi::add_record(set, &NULL, &mut out, 5, &mut entry);
         assert_eq!(added.refusal.into_result(), Ok(()));
         assert_eq!((added.bytes, out[4], out[17], entry[8]), (12, 9, 9, 9));
+    }
+
+    #[test]
+    fn x_and_y_of_other_lengths_are_10_and_touch_nothing() {
+        let set = Tables {
+            kind: kind::MULTIPOINT,
+            counts: &[],
+            ..SEGMENT
+        };
+        let point = Tables {
+            kind: kind::POINT,
+            counts: &[],
+            x: &[0.0],
+            y: &[0.0],
+            ..SEGMENT
+        };
+        for tables in [SEGMENT, set, point] {
+            let n = tables.x.len();
+            for lengths in (0..4).flat_map(|x| (0..4).map(move |y| (x, y))) {
+                let (x, y) = (&[0.0; 3][..lengths.0], &[0.0; 3][..lengths.1]);
+                let other = Tables { x, y, ..tables };
+                // a multipoint has as many points as it has x
+                let agree = if tables.kind == kind::MULTIPOINT {
+                    lengths.0 == lengths.1
+                } else {
+                    lengths == (n, n)
+                };
+                if agree {
+                    assert_eq!(Writer::new().add(&other), Ok(()), "{other:?}");
+                } else {
+                    let refused = said(ffi::new(), &other, 200, 8);
+                    assert_eq!(refused, Error::Tables, "{other:?}");
+                    assert_eq!(said(ffi::new(), &other, 0, 0), Error::Tables);
+                }
+            }
+        }
     }
 
     #[test]

@@ -88,7 +88,8 @@ fn tables_can_be_changed_before_they_are_written() {
     writer.add(&flat).unwrap();
     let (shp, shx) = writer.finish().unwrap();
     let again = read_all(&Plan::check(&shp, &shx).unwrap());
-    assert_eq!(shape_of(&again[0]).xy, shape_of(&read).xy);
+    assert_eq!(shape_of(&again[0]).x, shape_of(&read).x);
+    assert_eq!(shape_of(&again[0]).y, shape_of(&read).y);
     assert_eq!(again[0].kind(), kind::POLYLINE);
 }
 
@@ -101,12 +102,12 @@ fn filled(record: Record) -> Record {
     match record {
         Record::Parts(shape) if shape.m_range.is_none() => Record::Parts(Shape {
             m_range,
-            m: vec![NO_DATA; shape.xy.len() / 2],
+            m: vec![NO_DATA; shape.x.len()],
             ..shape
         }),
         Record::Multipoint(set) if set.m_range.is_none() => Record::Multipoint(Multipoint {
             m_range,
-            m: vec![NO_DATA; set.xy.len() / 2],
+            m: vec![NO_DATA; set.x.len()],
             ..set
         }),
         whole => whole,
@@ -151,5 +152,29 @@ fn an_m_that_is_there_is_not_filled() {
     for put_together in [Record::Parts(shape), Record::Multipoint(set)] {
         assert!(!put_together.lacks_m());
         assert_eq!(put_together.clone().with_no_data(), put_together);
+    }
+}
+
+#[test]
+fn a_record_put_together_of_x_and_y_that_differ_in_length_is_10() {
+    let changes: [fn(&mut Vec<f64>); 2] = [|store| store.push(1.0), |store| store.clear()];
+    for kind in KINDS {
+        for change in changes {
+            for axis in 0..2 {
+                let mut uneven = record(kind, &mut Random::new(70 + kind as u64));
+                let (x, y) = match &mut uneven {
+                    Record::Parts(shape) => (&mut shape.x, &mut shape.y),
+                    Record::Multipoint(set) => (&mut set.x, &mut set.y),
+                    _ => continue, // a point has one of each
+                };
+                change([x, y][axis]);
+                let uneven = uneven.with_no_data();
+                let mut writer = Writer::new();
+                assert_eq!(writer.add_record(&uneven), Err(Error::Tables));
+                let boxed = uneven.tables().with_true_bbox();
+                assert_eq!(writer.add(&boxed), Err(Error::Tables));
+                assert_eq!(writer.finish(), Writer::new().finish());
+            }
+        }
     }
 }

@@ -34,7 +34,8 @@ fn each_side_is_a_value_of_its_own_table() {
     let tables = Tables {
         kind: kind::POLYLINE_Z,
         counts: &[2, 1],
-        xy: &[3.0, -20.0, 1.0, -40.0, 2.0, -30.0],
+        x: &[3.0, 1.0, 2.0],
+        y: &[-20.0, -40.0, -30.0],
         z: &[500.0, 700.0, 600.0],
         m: &[-7000.0, -9000.0, -8000.0],
         ..Tables::default()
@@ -53,12 +54,13 @@ fn each_side_is_a_value_of_its_own_table() {
 #[test]
 fn nan_is_passed_over_and_minus_zero_lies_below_zero() {
     let nan = f64::NAN;
-    for xy in [
-        [0.0, nan, -0.0, 5.0, nan, 5.0],
-        [-0.0, 5.0, 0.0, nan, -nan, 5.0],
+    for (x, y) in [
+        ([0.0, -0.0, nan], [nan, 5.0, 5.0]),
+        ([-0.0, 0.0, -nan], [5.0, nan, 5.0]),
     ] {
         let tables = Tables {
-            xy: &xy,
+            x: &x,
+            y: &y,
             z: &[nan, f64::INFINITY, 1.0],
             ..Tables::default()
         };
@@ -66,11 +68,19 @@ fn nan_is_passed_over_and_minus_zero_lies_below_zero() {
         assert_bbox(tables, numbers);
     }
     let none = Tables {
-        xy: &[nan, 1.0],
+        x: &[nan],
+        y: &[1.0],
         z: &[nan],
         ..Tables::default()
     };
     assert_bbox(none, [0.0, 1.0, 0.0, 1.0, 0.0, 0.0, 0.0, 0.0]);
+    // each table by itself, also where they disagree in length
+    let uneven = Tables {
+        x: &[3.0, 1.0, 2.0],
+        y: &[5.0],
+        ..Tables::default()
+    };
+    assert_bbox(uneven, [1.0, 5.0, 3.0, 5.0, 0.0, 0.0, 0.0, 0.0]);
     assert_bbox(Tables::default(), [0.0; 8]);
 }
 
@@ -97,7 +107,8 @@ fn a_pair_with_true_boxes_has_the_true_box_in_its_header() {
     for kind in KINDS {
         let mut random = Random::new(kind as u64);
         let mut writer = Writer::new();
-        let (mut xy, mut z, mut m) = (Vec::new(), Vec::new(), Vec::new());
+        let (mut x, mut y) = (Vec::new(), Vec::new());
+        let (mut z, mut m) = (Vec::new(), Vec::new());
         for _ in 0..20 {
             let record: Record = record(kind, &mut random);
             let tables = record.tables().with_true_bbox();
@@ -105,14 +116,16 @@ fn a_pair_with_true_boxes_has_the_true_box_in_its_header() {
             // an empty place, whose own box is one of zeros
             let null = Record::Null.tables().with_true_bbox();
             writer.add(&null).unwrap();
-            xy.extend(tables.xy);
+            x.extend(tables.x);
+            y.extend(tables.y);
             z.extend(tables.z);
             m.extend(tables.m);
         }
         let (shp, shx) = writer.finish().unwrap();
         assert!(check_pair(&shp, &shx).is_ok());
         let all = Tables {
-            xy: &xy,
+            x: &x,
+            y: &y,
             z: &z,
             m: &m,
             ..Tables::default()

@@ -56,7 +56,8 @@ fn run(kind: i32, points: usize) -> Record {
         z_range: None,
         m_range: None,
         counts: vec![points as u32],
-        xy: vec![0.0; 2 * points],
+        x: vec![0.0; points],
+        y: vec![0.0; points],
         z: measured(common::has_z(kind)),
         m: measured(common::has_m(kind)),
     })
@@ -113,7 +114,7 @@ fn a_multipoint_takes_20_words_and_8_for_each_point_with_z_and_m_8_and_4_more() 
             assert_eq!(read_index_entry(&shx[100..]), Ok(entry));
             assert_eq!(shp.len(), 108 + 2 * words);
             // kind, box, n, points, then z and m, each with its range
-            let mut doubles = set.xy.clone();
+            let mut doubles: Vec<f64> = set.points().flatten().collect();
             for (range, values) in [(set.z_range, &set.z), (set.m_range, &set.m)] {
                 doubles.extend(range.iter().flat_map(|range| [range.low, range.high]));
                 doubles.extend(values);
@@ -148,7 +149,7 @@ fn counts_and_first_x(starts: &[i32]) -> (Vec<u32>, Vec<f64>) {
     let size = Bytes(2 * (22 + 2 * starts.len() as i64 + 8 * 5));
     match read_record(&content, size, None) {
         Ok(Record::Parts(shape)) => {
-            let firsts = shape.parts().map(|part| part[0]).collect();
+            let firsts = shape.parts().map(|(x, _)| x[0]).collect();
             (shape.counts, firsts)
         }
         other => panic!("{other:?}"),
@@ -170,8 +171,16 @@ fn a_shape_put_together_has_no_more_parts_than_points() {
         other => panic!("{other:?}"),
     };
     shape.counts = vec![1, u32::MAX, 1];
-    let lengths: Vec<usize> = shape.parts().map(<[f64]>::len).collect();
-    assert_eq!(lengths, [2, 2, 0]);
+    let lengths = |shape: &Shape| -> Vec<_> {
+        let both = |(x, y): (&[f64], &[f64])| [x.len(), y.len()];
+        shape.parts().map(both).collect()
+    };
+    assert_eq!(lengths(&shape), [[1; 2], [1; 2], [0; 2]]);
+    // as many as the shorter store has
+    shape.x.extend([0.0; 3]);
+    assert_eq!(lengths(&shape), [[1; 2], [1; 2], [0; 2]]);
+    shape.y.clear();
+    assert_eq!(lengths(&shape), [[0; 2]; 3]);
 }
 
 #[test]
@@ -206,7 +215,8 @@ fn points_have_the_values_of_their_kind() {
     };
     let point = |kind, z, m| Record::Point {
         kind,
-        xy: [1.0, 2.0],
+        x: 1.0,
+        y: 2.0,
         z,
         m,
     };
@@ -218,39 +228,39 @@ fn points_have_the_values_of_their_kind() {
 
 #[test]
 fn rings_turn_and_close() {
-    let square = [0.0, 0.0, 0.0, 1.0, 1.0, 1.0, 1.0, 0.0, 0.0, 0.0];
-    let back: Vec<f64> = square.chunks(2).rev().flatten().copied().collect();
-    assert_eq!(
-        ring_type_from_points_ordering(&square),
-        Ok(RingType::OuterRing)
-    );
-    assert_eq!(
-        ring_type_from_points_ordering(&back),
-        Ok(RingType::InnerRing)
-    );
-    assert_eq!(ring_type_from_points_ordering(&[]), Ok(RingType::OuterRing));
+    let (x, y) = ([0.0, 0.0, 1.0, 1.0, 0.0], [0.0, 1.0, 1.0, 0.0, 0.0]);
+    let back = |store: [f64; 5]| -> Vec<f64> { store.into_iter().rev().collect() };
+    let turning = ring_type_from_points_ordering;
+    assert_eq!(turning(&x, &y, 5), Ok(RingType::OuterRing));
+    assert_eq!(turning(&back(x), &back(y), 5), Ok(RingType::InnerRing));
+    assert_eq!(turning(&[], &[], 0), Ok(RingType::OuterRing));
     // the sum is the least negative double, and halves to minus zero
-    let least = [0.0, 0.0, -f64::from_bits(1), 1.0];
-    assert_eq!(
-        ring_type_from_points_ordering(&least),
-        Ok(RingType::OuterRing)
-    );
+    let least = [0.0, -f64::from_bits(1)];
+    assert_eq!(turning(&least, &[0.0, 1.0], 2), Ok(RingType::OuterRing));
 
-    assert_eq!(is_part_closed(&square), Ok(true));
-    assert_eq!(is_part_closed(&square[..8]), Ok(false));
-    assert_eq!(is_part_closed(&[0.0, -0.0]), Ok(true));
-    assert_eq!(is_part_closed(&[f64::NAN, 0.0]), Ok(false));
-    assert_eq!(is_part_closed(&[]), Ok(false));
+    assert_eq!(is_part_closed(&x, &y, 5), Ok(true));
+    assert_eq!(is_part_closed(&x, &y, 4), Ok(false));
+    assert_eq!(is_part_closed(&[0.0], &[-0.0], 1), Ok(true));
+    assert_eq!(is_part_closed(&[0.0; 2], &[0.0, -0.0], 2), Ok(true));
+    // one of the two does not close a ring
+    assert_eq!(is_part_closed(&[0.0; 2], &[0.0, 1.0], 2), Ok(false));
+    assert_eq!(is_part_closed(&[0.0, 1.0], &[0.0; 2], 2), Ok(false));
+    for (x, y) in [(f64::NAN, 0.0), (0.0, f64::NAN)] {
+        assert_eq!(is_part_closed(&[x], &[y], 1), Ok(false));
+    }
+    assert_eq!(is_part_closed(&[], &[], 0), Ok(false));
 
-    assert_eq!(
-        close_points_if_not_already(square.to_vec()),
-        Ok(square.to_vec())
-    );
-    assert_eq!(
-        close_points_if_not_already(square[..8].to_vec()),
-        Ok(square.to_vec())
-    );
-    assert_eq!(close_points_if_not_already(vec![]), Ok(vec![]));
+    let closed = Ok((x.to_vec(), y.to_vec()));
+    let close = |x: &[f64], y: &[f64], n| close_points_if_not_already(x.to_vec(), y.to_vec(), n);
+    assert_eq!(close(&x, &y, 5), closed);
+    // with room behind the run in neither store, in one of them, in both
+    for (x_n, y_n) in [(4, 4), (4, 5), (5, 4), (5, 5)] {
+        assert_eq!(close(&x[..x_n], &y[..y_n], 4), closed);
+    }
+    // what stands behind the run is not of it
+    assert_eq!(close(&[7.0, 8.0], &[9.0], 1), Ok((vec![7.0], vec![9.0])));
+    assert_eq!(close(&x, &y, 0), Ok((vec![], vec![])));
+    assert_eq!(close(&[], &[], 0), Ok((vec![], vec![])));
 }
 
 #[test]
@@ -260,19 +270,20 @@ fn the_header_box_grows_and_a_writer_can_be_finished_halfway() {
     assert_eq!((shp.len(), &shp), (100, &shx));
     assert_eq!(read_header(&shp).unwrap().shape_type, 0);
 
-    let point = |xy: &[f64; 2], z, m, writer: &mut Writer| {
+    let point = |x, y, z, m, writer: &mut Writer| {
         let tables = Tables {
             kind: 11,
-            xy,
+            x: &[x],
+            y: &[y],
             z: &[z],
             m: &[m],
             ..Tables::default()
         };
         writer.add(&tables).unwrap();
     };
-    point(&[5.0, -6.0], 7.0, -8.0, &mut writer);
+    point(5.0, -6.0, 7.0, -8.0, &mut writer);
     let halfway = writer.clone().finish().unwrap();
-    point(&[-1.0, 2.0], -3.0, 4.0, &mut writer);
+    point(-1.0, 2.0, -3.0, 4.0, &mut writer);
     let (shp, _) = writer.finish().unwrap();
     let bbox = BBoxZ {
         xmin: -1.0,

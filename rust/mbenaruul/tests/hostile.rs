@@ -5,7 +5,7 @@ mod common;
 
 use common::{content, set};
 use mbenaruul::{
-    check_pair, close_points_if_not_already, is_part_closed, read_header, read_index_entry,
+    check_pair, close_points_if_not_already, is_part_closed, points, read_header, read_index_entry,
     read_record, read_record_header, ring_type_from_points_ordering, Bytes, Error, Plan, Record,
     Tables, Writer,
 };
@@ -131,7 +131,10 @@ fn the_largest_multipoint_for_its_bytes_takes_twice_their_memory() {
         let extra = if kind == 18 { 2 } else { 0 };
         let points = set(kind, 10_000, &vec![0.5; 10_000 * doubles + extra]);
         match read(&points, 2 * words, None) {
-            Ok(Record::Multipoint(set)) => assert_eq!(set.xy, [0.5; 20_000]),
+            Ok(Record::Multipoint(set)) => {
+                assert_eq!(set.x, [0.5; 10_000]);
+                assert_eq!(set.y, set.x);
+            }
             other => panic!("{other:?}"),
         }
     }
@@ -141,7 +144,9 @@ fn the_largest_multipoint_for_its_bytes_takes_twice_their_memory() {
 fn points_of_no_part_take_no_memory() {
     let none = content(3, 0, 100_000_000, &[], &[]);
     match read(&none, size(0, 100_000_000), None) {
-        Ok(Record::Parts(shape)) => assert!(shape.counts.is_empty() && shape.xy.is_empty()),
+        Ok(Record::Parts(shape)) => {
+            assert!(shape.counts.is_empty() && shape.x.is_empty() && shape.y.is_empty())
+        }
         other => panic!("{other:?}"),
     }
 }
@@ -159,9 +164,27 @@ fn parts_of_no_point_take_four_bytes_each() {
 fn the_largest_shape_for_its_bytes_takes_twice_their_memory() {
     let points = content(3, 1, 10_000, &[0], &[0.5; 20_000]);
     match read(&points, size(1, 10_000), None) {
-        Ok(Record::Parts(shape)) => assert_eq!(shape.xy, [0.5; 20_000]),
+        Ok(Record::Parts(shape)) => {
+            assert_eq!(shape.x, [0.5; 10_000]);
+            assert_eq!(shape.y, shape.x);
+        }
         other => panic!("{other:?}"),
     }
+}
+
+#[test]
+fn going_over_points_takes_no_memory() {
+    let content = content(3, 2, 10_000, &[0, 5_000], &[0.5; 20_000]);
+    let shape = match read(&content, size(2, 10_000), None) {
+        Ok(Record::Parts(shape)) => shape,
+        other => panic!("{other:?}"),
+    };
+    let before = ASKED.with(Cell::get);
+    let of_parts = shape.parts().flat_map(|(x, y)| points(x, y));
+    assert!(of_parts.eq(shape.points()) && shape.points().rev().eq([[0.5; 2]; 10_000]));
+    let tables = shape.tables().with_true_bbox();
+    assert!(points(tables.x, tables.y).eq(shape.points()));
+    assert_eq!(ASKED.with(Cell::get), before);
 }
 
 #[test]
@@ -171,7 +194,8 @@ fn a_record_that_is_skipped_is_not_read() {
         let run = Tables {
             kind: 3,
             counts: &[2],
-            xy: &[0.0, 0.0, 1.0, 1.0],
+            x: &[0.0, 1.0],
+            y: &[0.0, 1.0],
             ..Tables::default()
         };
         writer.add(&run).unwrap();
@@ -229,9 +253,13 @@ fn nothing_at_all_is_answered_by_every_call() {
     assert_eq!(read(&[], 0, None), Err(short));
     assert_eq!(read(&[], i64::MIN, Some(3)), Err(short));
     assert_eq!(check_pair(&[], &[]).unwrap_err().number(), 8);
-    assert_eq!(is_part_closed(&[]), Ok(false));
-    assert!(ring_type_from_points_ordering(&[]).is_ok());
-    assert_eq!(close_points_if_not_already(Vec::new()), Ok(Vec::new()));
+    assert_eq!(is_part_closed(&[], &[], 0), Ok(false));
+    assert!(ring_type_from_points_ordering(&[], &[], 0).is_ok());
+    let nothing = (Vec::new(), Vec::new());
+    assert_eq!(
+        close_points_if_not_already(Vec::new(), Vec::new(), 0),
+        Ok(nothing)
+    );
     assert_eq!(
         Writer::new().add(&Tables::default()),
         Err(Error::NotTaken(0))

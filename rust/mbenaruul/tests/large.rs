@@ -7,28 +7,29 @@ use mbenaruul::{check_pair, kind, BBoxZ, Error, Plan, Record, Tables, Totals, Wr
 
 const RUNS: usize = 60_000;
 
-/// Shelf run k: one part of two points, so that all records have the same length.
-fn run(k: usize) -> [f64; 4] {
+/// The x and the y of shelf run k: one part of two points, so that all records have the same length.
+fn run(k: usize) -> ([f64; 2], [f64; 2]) {
     let (aisle, place) = ((k / 100) as f64, (k % 100) as f64);
-    [aisle, place, aisle + 0.5, place]
+    ([aisle, aisle + 0.5], [place; 2])
 }
 
 fn plan() -> (Vec<u8>, Vec<u8>) {
     let mut writer = Writer::new();
     for k in 1..=RUNS {
-        let xy = run(k);
+        let (x, y) = run(k);
         writer
             .add(&Tables {
                 kind: kind::POLYLINE,
                 bbox: BBoxZ {
-                    xmin: xy[0],
-                    ymin: xy[1],
-                    xmax: xy[2],
-                    ymax: xy[3],
+                    xmin: x[0],
+                    ymin: y[0],
+                    xmax: x[1],
+                    ymax: y[1],
                     ..BBoxZ::default()
                 },
                 counts: &[2],
-                xy: &xy,
+                x: &x,
+                y: &y,
                 ..Tables::default()
             })
             .unwrap();
@@ -48,7 +49,10 @@ fn a_plan_of_60_000_runs() {
     assert_eq!(plan.totals(), totals);
     for (k, record) in plan.records().enumerate() {
         match record.unwrap() {
-            Record::Parts(shape) => assert_eq!(shape.xy, run(k + 1)),
+            Record::Parts(shape) => {
+                let (x, y) = run(k + 1);
+                assert_eq!((&shape.x[..], &shape.y[..]), (&x[..], &y[..]));
+            }
             other => panic!("{other:?}"),
         }
     }

@@ -62,7 +62,8 @@ fn a_record_has_the_values_that_were_packed() {
         z_range: range,
         m_range: range,
         counts: vec![2, 3],
-        xy: vec![0.0, 0.0, 1.0, 1.0, 2.0, 0.0, 3.0, 1.0, 4.0, 0.0],
+        x: vec![0.0, 1.0, 2.0, 3.0, 4.0],
+        y: vec![0.0, 1.0, 0.0, 1.0, 0.0],
         z: vec![5.0; 5],
         m: vec![6.0; 5],
     };
@@ -81,32 +82,33 @@ fn a_multipoint_has_the_values_that_were_packed() {
         xmax: 9.0,
         ymax: 9.0,
     };
-    let expected = |kind: i32, z: bool, m: bool, xy: &[f64]| {
-        let points = xy.len() / 2;
+    let expected = |kind: i32, z: bool, m: bool, x: &[f64], y: &[f64]| {
+        let points = x.len();
         Some(Ok(Record::Multipoint(Multipoint {
             kind,
             bbox,
             z_range: if z { range } else { None },
             m_range: if m { range } else { None },
-            xy: xy.to_vec(),
+            x: x.to_vec(),
+            y: y.to_vec(),
             z: vec![5.0; if z { points } else { 0 }],
             m: vec![6.0; if m { points } else { 0 }],
         })))
     };
-    let bend = [2.0, 0.0, 3.0, 1.0, 4.0, 0.0];
+    let (bend_x, bend_y) = ([2.0, 3.0, 4.0], [0.0, 1.0, 0.0]);
     for (kind, z, m) in [(8, false, false), (28, false, true), (18, true, true)] {
         let [shp, shx] = ["shp", "shx"].map(|end| bytes(&format!("good_{kind}.{end}")));
         let plan = Plan::check(&shp, &shx).unwrap();
-        assert_eq!(plan.record(1), expected(kind, z, m, &bend));
-        assert_eq!(plan.record(2), expected(kind, z, m, &[1.0, 2.0]));
+        assert_eq!(plan.record(1), expected(kind, z, m, &bend_x, &bend_y));
+        assert_eq!(plan.record(2), expected(kind, z, m, &[1.0], &[2.0]));
     }
     // each record for itself has m or not
     for (kind, z) in [(28, false), (18, true)] {
         let [shp, shx] = ["shp", "shx"].map(|end| bytes(&format!("lacks_m_{kind}.{end}")));
         let plan = Plan::check(&shp, &shx).unwrap();
-        let segment = [0.0, 0.0, 1.0, 1.0];
-        assert_eq!(plan.record(1), expected(kind, z, false, &segment));
+        let segment = [0.0, 1.0]; // x, and y
+        assert_eq!(plan.record(1), expected(kind, z, false, &segment, &segment));
         assert_eq!(plan.record(2), Some(Ok(Record::Null)));
-        assert_eq!(plan.record(3), expected(kind, z, true, &segment));
+        assert_eq!(plan.record(3), expected(kind, z, true, &segment, &segment));
     }
 }

@@ -46,12 +46,13 @@ fn each_refused_pair_has_its_text() {
 fn two_entries_exchanged() {
     let mut writer = Writer::new();
     for k in 0..31u32 {
-        let xy = vec![f64::from(k); 2 * (k as usize + 2)];
+        let coordinates = vec![f64::from(k); k as usize + 2];
         writer
             .add(&Tables {
                 kind: kind::POLYLINE,
                 counts: &[k + 2],
-                xy: &xy,
+                x: &coordinates,
+                y: &coordinates,
                 ..Tables::default()
             })
             .unwrap();
@@ -400,7 +401,8 @@ fn boxes_are_not_judged() {
                 ..BBoxZ::default()
             },
             counts: &[2],
-            xy: &[0.0, 0.0, 1.0, 1.0],
+            x: &[0.0, 1.0],
+            y: &[0.0, 1.0],
             ..Tables::default()
         })
         .unwrap();

@@ -30,7 +30,8 @@ const SEGMENT: Tables<'_> = Tables {
         mmax: 0.0,
     },
     counts: &[2],
-    xy: &[0.0, 0.0, 1.0, 1.0],
+    x: &[0.0, 1.0],
+    y: &[0.0, 1.0],
     z: &[],
     m: &[],
 };
@@ -257,15 +258,16 @@ fn not_taken_9() {
 
 #[test]
 fn tables_10_of_a_run_of_points() {
-    assert_eq!(is_part_closed(&[0.0]), Err(Error::Tables));
-    assert_eq!(
-        ring_type_from_points_ordering(&[0.0; 3]),
-        Err(Error::Tables)
-    );
-    assert_eq!(
-        close_points_if_not_already(vec![0.0; 5]),
-        Err(Error::Tables)
-    );
+    // past x, past y, past both
+    for (x_n, y_n, n) in [(1, 2, 2), (2, 1, 2), (2, 2, 3), (0, 0, usize::MAX)] {
+        let (x, y) = (&[0.0; 2][..x_n], &[0.0; 2][..y_n]);
+        assert_eq!(is_part_closed(x, y, n), Err(Error::Tables));
+        let turning = ring_type_from_points_ordering(x, y, n);
+        assert_eq!(turning, Err(Error::Tables));
+        let closing = close_points_if_not_already(x.to_vec(), y.to_vec(), n);
+        assert_eq!(closing, Err(Error::Tables));
+    }
+    assert_eq!(is_part_closed(&[0.0], &[0.0; 2], 1), Ok(true));
 }
 
 #[test]
@@ -273,7 +275,8 @@ fn tables_10_of_a_shape() {
     let point = Tables {
         kind: 1,
         counts: &[],
-        xy: &[1.0, 2.0],
+        x: &[1.0],
+        y: &[2.0],
         ..SEGMENT
     };
     assert_eq!(Writer::new().add(&point), Ok(()));
@@ -295,7 +298,36 @@ fn tables_10_of_a_shape() {
             ..SEGMENT
         },
         Tables {
-            xy: &[0.0, 0.0, 1.0],
+            x: &[0.0],
+            ..SEGMENT
+        },
+        Tables {
+            y: &[0.0],
+            ..SEGMENT
+        },
+        Tables {
+            x: &[0.0; 3],
+            ..SEGMENT
+        },
+        Tables {
+            y: &[0.0; 3],
+            ..SEGMENT
+        },
+        // as many coordinates as two points have
+        Tables {
+            x: &[0.0; 3],
+            y: &[0.0],
+            ..SEGMENT
+        },
+        Tables {
+            x: &[0.0; 4],
+            y: &[],
+            ..SEGMENT
+        },
+        // the other point counts agree
+        Tables {
+            counts: &[3],
+            x: &[0.0; 3],
             ..SEGMENT
         },
         Tables {
@@ -325,7 +357,15 @@ fn tables_10_of_a_shape() {
             ..point
         },
         Tables {
-            xy: &[1.0, 2.0, 3.0, 4.0],
+            x: &[1.0, 3.0],
+            y: &[2.0, 4.0],
+            ..point
+        },
+        Tables { x: &[], ..point },
+        Tables { y: &[], ..point },
+        Tables {
+            x: &[1.0, 2.0],
+            y: &[],
             ..point
         },
         Tables { kind: 21, ..point },
@@ -344,7 +384,8 @@ fn tables_10_of_a_shape() {
 const DROPS: Tables<'_> = Tables {
     kind: 18,
     counts: &[],
-    xy: &[0.0; 6],
+    x: &[0.0; 3],
+    y: &[0.0; 3],
     z: &[0.0; 3],
     m: &[0.0; 3],
     ..SEGMENT
@@ -374,13 +415,21 @@ fn tables_10_of_a_multipoint() {
                 counts: &[0],
                 ..tables
             },
-            // an odd number of coordinates; a point more, or less, than z and m have
+            // one more, or less, than the others have
             Tables {
-                xy: &[0.0; 5],
+                x: &[0.0; 2],
                 ..tables
             },
             Tables {
-                xy: &[0.0; 7],
+                x: &[0.0; 4],
+                ..tables
+            },
+            Tables {
+                y: &[0.0; 2],
+                ..tables
+            },
+            Tables {
+                y: &[0.0; 4],
                 ..tables
             },
             Tables {
@@ -397,8 +446,12 @@ fn tables_10_of_a_multipoint() {
         }
     }
     for tables in [DROPS, with_m] {
-        for xy in [&[0.0; 4][..], &[0.0; 8], &[]] {
-            let other = Tables { xy, ..tables };
+        for xy in [&[0.0; 2][..], &[0.0; 4], &[]] {
+            let other = Tables {
+                x: xy,
+                y: xy,
+                ..tables
+            };
             assert_eq!(Writer::new().add(&other), Err(Error::Tables));
         }
         // m is always written
@@ -422,9 +475,11 @@ fn tables_10_of_a_null() {
             counts: &[u32::MAX, u32::MAX],
             ..null
         },
-        Tables { xy: &[0.0], ..null },
+        Tables { x: &[0.0], ..null },
+        Tables { y: &[0.0], ..null },
         Tables {
-            xy: &[0.0, 0.0],
+            x: &[0.0],
+            y: &[0.0],
             ..null
         },
         Tables { z: &[0.0], ..null },
@@ -455,7 +510,7 @@ fn refusals_can_be_kept_in_a_set() {
         read_header(&[]).unwrap_err(),
         read_index_entry(&[]).unwrap_err(),
         read_index_entry(&[0; 4]).unwrap_err(),
-        is_part_closed(&[0.0]).unwrap_err(),
+        is_part_closed(&[], &[], 1).unwrap_err(),
     ];
     let set = HashSet::from(refused);
     assert_eq!(set.len(), 3);

@@ -124,21 +124,41 @@ fn records_come_from_both_ends_and_are_counted() {
 fn points_are_pairs_of_a_shape_and_of_each_part() {
     for kind in [3, 5, 13, 15] {
         if let Record::Parts(shape) = record(kind, &mut Random::new(kind as u64)) {
-            assert_eq!(shape.points().len(), shape.xy.len() / 2);
-            assert!(shape.points().flatten().eq(shape.xy.iter().copied()));
-            assert!(shape.parts().flat_map(points).eq(shape.points()));
+            assert_pairs(shape.points(), &shape.x, &shape.y);
+            let of_parts = shape.parts().flat_map(|(x, y)| points(x, y));
+            assert!(of_parts.eq(shape.points()));
             assert_eq!(shape.parts().len(), shape.counts.len());
-            let last = [shape.xy[shape.xy.len() - 2], shape.xy[shape.xy.len() - 1]];
-            assert_eq!(shape.points().next_back(), Some(last));
         }
     }
     for kind in [8, 28, 18] {
         let set = multipoint(kind, 3, &mut Random::new(kind as u64));
         assert_eq!(set.points().len(), 3);
-        assert!(set.points().flatten().eq(set.xy.iter().copied()));
-        assert_eq!(set.points().next_back(), Some([set.xy[4], set.xy[5]]));
+        assert_pairs(set.points(), &set.x, &set.y);
     }
-    assert!(points(&[1.0, 2.0, 3.0]).eq([[1.0, 2.0]]));
+}
+
+#[test]
+fn points_go_as_far_as_the_shorter_store() {
+    let (x, y) = ([1.0, 2.0, 3.0], [4.0, 5.0, 6.0]);
+    for x in (0..=3).map(|length| &x[..length]) {
+        for y in (0..=3).map(|length| &y[..length]) {
+            assert_pairs(points(x, y), x, y);
+        }
+    }
+}
+
+/// The points are the zip of both stores, from both ends, and counted.
+fn assert_pairs<P>(points: P, x: &[f64], y: &[f64])
+where
+    P: DoubleEndedIterator<Item = [f64; 2]> + ExactSizeIterator + Clone,
+{
+    let pair = |(&x, &y): (&f64, &f64)| [x, y];
+    let zip: Vec<[f64; 2]> = x.iter().zip(y).map(pair).collect();
+    assert_eq!(points.len(), zip.len());
+    assert!(points.clone().eq(zip.iter().copied()));
+    assert!(points.clone().rev().eq(zip.iter().copied().rev()));
+    assert_eq!(points.clone().nth(1), zip.get(1).copied());
+    assert_eq!(points.clone().next_back(), zip.last().copied());
 }
 
 #[test]

@@ -380,7 +380,8 @@ impl<'a> Place<'a> {
             let last_at = at(to.checked_sub(1)?)?;
             let (first, last) = (point(at(from)?)?, point(last_at)?);
             // what the checker asks of a ring, whatever the floating-point mode
-            if is_part_closed(&[first, last].concat()) == Ok(false) {
+            let [x, y] = [0, 1].map(|axis| [first[axis], last[axis]]);
+            if is_part_closed(&x, &y, 2) == Ok(false) {
                 let cause = Cause::OpenRing { ring, first, last };
                 return Some((File::Shp, last_at, cause));
             }

@@ -4,7 +4,7 @@
 // Each test file is a program of its own and uses a part of this.
 #![allow(dead_code)]
 
-use mbenaruul::{BBox, Multipoint, Plan, Range, Record, Shape, Totals, Writer};
+use mbenaruul::{points, BBox, Multipoint, Plan, Range, Record, Shape, Totals, Writer};
 use std::fs;
 use std::path::PathBuf;
 
@@ -86,7 +86,8 @@ pub fn record(kind: i32, random: &mut Random) -> Record {
     if is_point(kind) {
         Record::Point {
             kind,
-            xy: [random.double(), random.double()],
+            x: random.double(),
+            y: random.double(),
             z: has_z(kind).then(|| random.double()),
             m: has_m(kind).then(|| random.double()),
         }
@@ -120,33 +121,36 @@ pub fn multipoint(kind: i32, points: usize, random: &mut Random) -> Multipoint {
         bbox: random.bbox(),
         z_range: has_z(kind).then(|| random.range()),
         m_range: has_m(kind).then(|| random.range()),
-        xy: random.doubles(2 * points),
+        x: random.doubles(points),
+        y: random.doubles(points),
         z: random.doubles(if has_z(kind) { points } else { 0 }),
         m: random.doubles(if has_m(kind) { points } else { 0 }),
     }
 }
 
 fn shape(kind: i32, random: &mut Random) -> Shape {
-    let mut counts = Vec::new();
-    let mut xy = Vec::new();
+    let (mut counts, mut x, mut y) = (Vec::new(), Vec::new(), Vec::new());
     for _ in 0..1 + random.below(3) {
         let least = if is_polygon(kind) { 4 } else { 2 };
         let points = least + random.below(4);
-        let mut part = random.doubles(2 * points);
-        if is_polygon(kind) {
-            part.copy_within(..2, 2 * points - 2);
-        }
         counts.push(points as u32);
-        xy.extend(part);
+        for store in [&mut x, &mut y] {
+            let mut part = random.doubles(points);
+            if is_polygon(kind) {
+                part[points - 1] = part[0];
+            }
+            store.extend(part);
+        }
     }
-    let points = xy.len() / 2;
+    let points = x.len();
     Shape {
         kind,
         bbox: random.bbox(),
         z_range: has_z(kind).then(|| random.range()),
         m_range: has_m(kind).then(|| random.range()),
         counts,
-        xy,
+        x,
+        y,
         z: random.doubles(if has_z(kind) { points } else { 0 }),
         m: random.doubles(if has_m(kind) { points } else { 0 }),
     }
@@ -187,14 +191,13 @@ pub fn read_all(plan: &Plan<'_>) -> Vec<Record> {
 pub fn is_divided(record: &Record) -> bool {
     match record {
         Record::Parts(shape) => {
-            let points = |part: &[f64]| part.len() as u32 / 2;
-            let bits = |double: &f64| double.to_bits();
-            shape.parts().map(points).eq(shape.counts.iter().copied())
-                && shape
-                    .parts()
-                    .flatten()
-                    .map(bits)
-                    .eq(shape.xy.iter().map(bits))
+            let lengths = shape.parts().map(|(x, y)| [x.len(), y.len()]);
+            let counts = shape.counts.iter().map(|&count| [count as usize; 2]);
+            let of_parts = shape.parts().flat_map(|(x, y)| points(x, y));
+            let bits = |point: [f64; 2]| point.map(f64::to_bits);
+            lengths.eq(counts)
+                && of_parts.map(bits).eq(shape.points().map(bits))
+                && [&shape.x, &shape.y].map(Vec::len) == [shape.points().len(); 2]
         }
         _ => true,
     }
