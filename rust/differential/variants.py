@@ -56,7 +56,7 @@ VARIANTS = [
     ('an entry that fills its buffer is refused', 'writer/src/judge.rt', 'if entry < 8 {', 'if entry <= 8 {'),
     ('a point has its x twice', 'writer/src/record.rt', 'fields::write_doubles(out, 8, ys);', 'fields::write_doubles(out, 8, xs);'),
     ('the record number stays', 'writer/src/record.rt', 'let next = natural(number) + 1;', 'let next = natural(number);'),
-    ('f64_min with its arguments exchanged', 'writer/src/boxes.rt', 'if fields::below(a, b) { a } else { b }', 'if fields::below(b, a) { b } else { a }'),
+    ('f64_min with its arguments exchanged', 'boxes/src/lib.rt', 'if fields::below(a, b) { a } else { b }', 'if fields::below(b, a) { b } else { a }'),
 ]
 
 

@@ -14,13 +14,13 @@ use Rattle.format.specs.Lengths.{Form, nothing, onePoint, manyPoints}
 use Rattle.format.specs.Lengths
 use Rattle.format.specs.Order.{first}
 use Rattle.format.specs.Said.{Said, gives, tables, long, roomBytes, unlessRefused}
-use Rattle.format.specs.Shapes.{Shape}
+use Rattle.format.specs.Shapes.{Shape, pointsIn}
 use Rattle.format.proofs.OrderLaws.{first-append}
 use Rattle.header.specs.declared.bbox.BBoxZ.{BBoxZ}
+use Rattle.boxes.specs.Boxes.{grown, flat, pointBox}
 use Rattle.writer.specs.declared.State.{State}
 use Rattle.writer.specs.declared.Adding.{Adding}
 use Rattle.writer.specs.Adding.{Lent, lentKind, lentForm, pointShape, lentShape, lentAgree, recordSize, kindTests, shapeTests, kindThen, boxThen, heldBox, nextState, addingOf, saidAdd, Adds}
-use Rattle.writer.specs.Boxes.{grown, flat, pointBox}
 use Rattle.writer.proofs.Accepted.{adding-is}
 use Rattle.writer.proofs.NextLaws.{next-is}
 use Rattle.writer.proofs.ShapeLaws.{lent-nothing, lent-point, lent-several}
@@ -127,6 +127,7 @@ module _ (t : Old.Lent) where
           words = record { 0 = pos (natAbs (s .words .0) + (4 + shapeWords (shape-same i))) };
           number = pos (natAbs (s .number) + 1);
           kind = k i;
+          points = s .points + pointsIn (shape-same i);
           bbox = b i;
         })
         ∙ sym (next-is s u)

@@ -14,12 +14,12 @@ use Rattle.format.specs.Kinds.{kindAt, kindOr}
 use Rattle.format.specs.Lengths.{Form, nothing, onePoint, manyPoints, parts, formAt}
 use Rattle.format.specs.Order.{first}
 use Rattle.format.specs.Said.{Said, gives, tables, long, roomBytes, unlessRefused}
-use Rattle.format.specs.Shapes.{Point, Shape, null, point, multipoint, parted}
+use Rattle.format.specs.Shapes.{Point, Shape, null, point, multipoint, parted, pointsIn}
 use Rattle.header.specs.declared.bbox.BBoxZ.{BBoxZ}
+use Rattle.boxes.specs.Boxes.{zeroDouble, grown, flat}
 use Rattle.writer.specs.declared.State.{State}
 use Rattle.writer.specs.declared.Adding.{Adding}
 use Rattle.writer.specs.Adding.{formOr, valueOf, kindTests, heldBox, saidAdd}
-use Rattle.writer.specs.Boxes.{zeroDouble, grown, flat}
 use Rattle.apart.specs.OldWriting.{pointsOf, partsOf, multipointOf, agree, countsHeld}
 
 pub record Lent : Type 0 where
@@ -125,6 +125,7 @@ nextState s t =
       words = record { 0 = pos (wordsThen s t) };
       number = pos (natAbs (s .number) + 1);
       kind = kindThen (lentForm t) s t;
+      points = s .points + pointsIn (lentShape t);
       bbox = boxThen (lentForm t) s t;
     }
 

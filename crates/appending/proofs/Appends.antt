@@ -9,21 +9,22 @@ use lib.ListN.{length, length-append}
 use Rattle.format.specs.declared.kinds.Kind.{Kind}
 use Rattle.format.specs.Encoding.{Box, recordBytes, entryBytes, endFrom, headerBytes, shapeWords, Held, HeldFrom, IsPair}
 use Rattle.format.specs.Kinds.{kindAt, kindOr}
-use Rattle.format.specs.Shapes.{Shape}
+use Rattle.format.specs.Shapes.{Shape, pointsIn}
 use Rattle.format.proofs.Equations.{records-nil, end-nil, shp-is, shx-is}
 use Rattle.format.proofs.KindLaws
 use Rattle.format.proofs.Records.{records-more, end-more, entries-more, held-more}
 use Rattle.header.specs.Box.{boxBits}
+use Rattle.boxes.specs.Boxes.{settled}
+use Rattle.rules.specs.Meaning.{allPoints}
 use Rattle.writer.specs.declared.State.{State}
-use Rattle.writer.specs.Adding.{Lent, lentShape, recordOf, entryOf, wordsThen, nextState}
-use Rattle.writer.specs.Boxes.{settled}
+use Rattle.writer.specs.Adding.{Lent, lentShape, recordOf, entryOf, wordsThen, pointsThen, nextState}
 use Rattle.writer.specs.Finishing.{shpHeader, shxHeader}
 use Rattle.writer.proofs.Accepted.{Accepted, accepted, shape-fits, kind-named, kind-stays, own-next, next-room, next-fine}
-use Rattle.writer.proofs.NextLaws.{words-next, number-next, shp-next, shx-next}
+use Rattle.writer.proofs.NextLaws.{words-next, number-next, points-next, shp-next, shx-next}
 use Rattle.appending.specs.OneMore.{KindBehind, Behind, stateKind, records, entries, Beginning, Appending}
 
 pub fresh-behind : Beginning
-fresh-behind k = record { words = ap pos (sym (end-nil 50)); number = refl; kind = refl; held = tt }
+fresh-behind k = record { words = ap pos (sym (end-nil 50)); number = refl; kind = refl; points = refl; held = tt }
 
 -- ---- the kind behind shapes
 
@@ -39,6 +40,10 @@ records-same : (k l : Kind) (ss : List Shape) → (0 < length ss → k ≡ l) �
 records-same k l [] e = records-nil k 1 ∙ sym (records-nil l 1)
 records-same k l (x ∷ ss) e = ap (λ (i : Kind). records i (x ∷ ss)) (e (omega arith))
 
+points-more : (ss : List Shape) (x : Shape) → allPoints (ss ++ x ∷ []) ≡ allPoints ss + pointsIn x
+points-more [] x = omega arith
+points-more (y ∷ ss) x = omega (arith, points-more ss x)
+
 module _ (k : Kind) (ss : List Shape) (s : State) (t : Lent) (b : Behind k ss s) (a : Accepted s t) where
   words-are : natAbs (s .words .0) ≡ endFrom 50 ss
   words-are = ap natAbs (b .words)
@@ -51,6 +56,9 @@ module _ (k : Kind) (ss : List Shape) (s : State) (t : Lent) (b : Behind k ss s)
 
   count-is : natAbs (s .number) + 1 ≡ length (ss ++ lentShape t ∷ []) + 1
   count-is = omega (arith, number-is, length-append ss (lentShape t ∷ []))
+
+  points-are : pointsThen s t ≡ allPoints (ss ++ lentShape t ∷ [])
+  points-are = ap (λ (n : ℕ). n + pointsIn (lentShape t)) (b .points) ∙ sym (points-more ss (lentShape t))
 
   -- the kind that the next state names: theirs, where there are any, and the record's own is a shape's in a file of it
   abbrev file : Kind
@@ -77,6 +85,7 @@ module _ (k : Kind) (ss : List Shape) (s : State) (t : Lent) (b : Behind k ss s)
         words = words-next s t ∙ ap pos end-is;
         number = number-next s t ∙ ap pos count-is;
         kind = kind-more file ss (lentShape t) (nextState s t .kind) (kind-named s t a);
+        points = points-next s t ∙ points-are;
         held = all-held;
       }
 

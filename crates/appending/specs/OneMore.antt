@@ -13,9 +13,10 @@ use Rattle.format.specs.Kinds.{kindAt, kindOr}
 use Rattle.format.specs.Said.{gives}
 use Rattle.format.specs.Shapes.{Shape, Among}
 use Rattle.header.specs.Box.{boxBits}
+use Rattle.boxes.specs.Boxes.{settled}
+use Rattle.rules.specs.Meaning.{allPoints}
 use Rattle.writer.specs.declared.State.{State}
 use Rattle.writer.specs.Adding.{Lent, lentShape, recordOf, entryOf, nextState, addingOf}
-use Rattle.writer.specs.Boxes.{settled}
 use Rattle.writer.specs.Finishing.{shpHeader, shxHeader}
 use Rattle.writer.specs.State.{fresh, stateFine}
 
@@ -24,11 +25,13 @@ abbrev pub KindBehind : Kind → List Shape → ℤ → Type 0
 KindBehind k [] code = code ≡ pos 0
 KindBehind k (s ∷ ss) code = kindAt code ≡ some k
 
--- the state is the one behind these shapes of that kind: the first of them stands at word 50 with number 1, and i32 fields hold their numbers
+-- the state is the one behind these shapes of that kind: the first of them stands at word 50 with number 1, and i32 fields hold their numbers; its
+-- points are all of theirs
 pub record Behind (k : Kind) (ss : List Shape) (s : State) : Type 0 where
   pub words : s .words .0 ≡ pos (endFrom 50 ss)
   pub number : s .number ≡ pos (length ss + 1)
   pub kind : KindBehind k ss (s .kind)
+  pub points : s .points ≡ allPoints ss
   pub held : HeldFrom 1 50 ss
 
 -- the kind that a state names

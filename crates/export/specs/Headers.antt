@@ -5,7 +5,7 @@ use Rattle.header.specs.declared.Header.{Header}
 use Rattle.header.specs.declared.entries.RecordHeader.{RecordHeader}
 use Rattle.header.specs.declared.entries.ShapeIndex.{ShapeIndex}
 use Rattle.header.specs.Entries.{recordHeader, shapeIndex}
-use Rattle.writer.specs.Boxes.{zeroBox}
+use Rattle.boxes.specs.Boxes.{zeroBox}
 use Rattle.export.specs.declared.headers.HeaderRead.{HeaderRead}
 use Rattle.export.specs.declared.headers.RecordHeaderRead.{RecordHeaderRead}
 use Rattle.export.specs.declared.headers.IndexEntryRead.{IndexEntryRead}

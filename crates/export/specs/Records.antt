@@ -8,12 +8,12 @@ use lib.IntN.{ℤ, pos}
 use lib.ListN.{length, drop}
 use Rattle.format.specs.declared.units.Bytes.{Bytes}
 use Rattle.format.specs.Said.{Said}
+use Rattle.boxes.specs.Boxes.{zeroDouble}
 use Rattle.multipart.specs.declared.Body.{Body}
 use Rattle.multipart.specs.Body.{noRange, countsIn, xIn, yIn, zIn, mIn}
 use Rattle.record.specs.declared.Point.{Point}
 use Rattle.record.specs.declared.Wanted.{Wanted}
 use Rattle.record.specs.Reading.{Shaped, nullShape, pointShape, multipointShape, partsShape, kindIn, recordOf, stored}
-use Rattle.writer.specs.Boxes.{zeroDouble}
 use Rattle.export.specs.declared.records.RecordRead.{RecordRead}
 use Rattle.export.specs.declared.refusals.Refusal.{Refusal}
 use Rattle.export.specs.Refusals.{refusalOf, orElse}

@@ -200,20 +200,32 @@ module _ {A : Type 0} (a x : A) where
     pub given : a ≡ x
     given = let q = pass (gives x) ts (gives a) (no-gifts ts r) e .1 in cc
 
+-- ---- what holds of the answer and of every refusal holds of what is said
+
+module _ {A : Type 0} (P : Said A → Type 0) where
+  abbrev pub Each : List (Bool × Said A) → Type 0
+  Each [] = Unit {0}
+  Each (t ∷ ts) = P (t .1) × Each ts
+
+  cond-holds : (b : Bool) (x y : Said A) → P x → P y → P (cond b x y)
+  cond-holds true x y p q = p
+  cond-holds false x y p q = q
+
+  pub first-holds : (ts : List (Bool × Said A)) (a : Said A) → Each ts → P a → P (first ts a)
+  first-holds [] a p q = q
+  first-holds (t ∷ ts) a p q = cond-holds (t .0) (first ts a) (t .1) (first-holds ts a (p .1) q) (p .0)
+
 -- ---- refusals that have document 01's numbers
 
 module _ {A : Type 0} where
   abbrev pub AllNumbered : List (Bool × Said A) → Type 0
-  AllNumbered [] = Unit {0}
-  AllNumbered (t ∷ ts) = Numbered (t .1) × AllNumbered ts
+  AllNumbered ts = Each Numbered ts
 
   pub cond-numbered : (b : Bool) (x y : Said A) → Numbered x → Numbered y → Numbered (cond b x y)
-  cond-numbered true x y p q = p
-  cond-numbered false x y p q = q
+  cond-numbered = cond-holds Numbered
 
   pub first-numbered : (ts : List (Bool × Said A)) (a : Said A) → AllNumbered ts → Numbered a → Numbered (first ts a)
-  first-numbered [] a p q = q
-  first-numbered (t ∷ ts) a p q = cond-numbered (t .0) (first ts a) (t .1) (first-numbered ts a (p .1) q) (p .0)
+  first-numbered = first-holds Numbered
 
   pub append-numbered : (ts us : List (Bool × Said A)) → AllNumbered ts → AllNumbered us → AllNumbered (ts ++ us)
   append-numbered [] us p q = q

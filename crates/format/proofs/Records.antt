@@ -1,5 +1,6 @@
 -- Records and index entries: where their fields stand and what is read there, of one record and of a list of shapes.
 use mathlib.Core.Path.{_≡_, refl, sym, ap, _∙_}
+use mathlib.Core.Bool.{true, false}
 use mathlib.Core.List.{List, [], _∷_, _++_, map, flatten, append-assoc, append-nil}
 use Prim.Native.Nat.{ℕ, zero, suc, _+_, _*_, _^_, _≤_, _<_}
 use native.Mathlib.Nat.{add-zero}
@@ -8,10 +9,11 @@ use lib.ListN.{length, take, getD, length-append}
 use Rattle.format.specs.declared.kinds.Kind.{Kind}
 use Rattle.format.specs.Bytes.{le, be, field}
 use Rattle.format.specs.Encoding.{shapeBytes, shapeWords, content, twoBig, recordBytes, recordsFrom, entriesFrom, entryBytes, endFrom, Held, HeldFrom}
+use Rattle.format.specs.Lengths.{onePoint}
 use Rattle.format.specs.Numbers.{big, little}
-use Rattle.format.specs.Shapes.{Shape, null, point, multipoint, parted, ownKind}
+use Rattle.format.specs.Shapes.{Shape, null, point, multipoint, parted, there, pointsIn, ownKind}
 use Rattle.format.proofs.ByteLaws.{AllBytes}
-use Rattle.format.proofs.LengthLaws.{some-words}
+use Rattle.format.proofs.LengthLaws.{some-words, least-words}
 use Rattle.format.proofs.NumberLaws.{length-big, length-little, length-two}
 use Rattle.format.proofs.Places.{Stands, join, front, back, le-back, be-back, le-stands, be-stands}
 
@@ -65,6 +67,14 @@ shape-least null = some-words _ _ _ _ _
 shape-least (point xy z m) = some-words _ _ _ _ _
 shape-least (multipoint s) = some-words _ _ _ _ _
 shape-least (parted s) = some-words _ _ _ _ _
+
+-- a word for each point, and more
+pub points-least : (s : Shape) → pointsIn s ≤ shapeWords s
+unfolding shapeWords pointsIn
+points-least null = omega arith
+points-least (point xy z m) = omega (arith, some-words onePoint (there z) (there m) 0 1)
+points-least (multipoint s) = let n = length (s .points) in omega (arith, least-words false (there (s .z)) (there (s .m)) 0 n)
+points-least (parted s) = let n = length (flatten (s .parts)) in omega (arith, least-words true (there (s .z)) (there (s .m)) (length (s .parts)) n)
 
 -- ---- the entries of a list of shapes
 

@@ -107,6 +107,6 @@ pub fn part_counted(s: &[u8], e: &[u8]) -> bool {
 pub fn lesser_and_greater(s: &[u8], e: &[u8]) -> bool {
     let a = given::double(s, 0);
     let b = given::double(s, 8);
-    let c = seen::double(e, seen::start(), writer::boxes::f64_min(a, b));
-    seen::whole(e, seen::double(e, c, writer::boxes::f64_max(a, b)))
+    let c = seen::double(e, seen::start(), boxes::f64_min(a, b));
+    seen::whole(e, seen::double(e, c, boxes::f64_max(a, b)))
 }

@@ -1,6 +1,6 @@
 -- An add that was taken passed every test: what follows of its kind, of the shape that was lent, and of the next state.
 use mathlib.Core.Path.{_≡_, refl, sym, ap, _∙_, subst}
-use mathlib.Core.Bool.{Bool, true, false, _&&_, _||_, not}
+use mathlib.Core.Bool.{Bool, true, false, cond, _&&_, _||_, not}
 use mathlib.Core.List.{List, [], _∷_}
 use mathlib.Core.Option.{Option, none, some}
 use Prim.Native.Nat.{ℕ, _+_, _*_, _-_, _^_, _≤_, _<_}
@@ -8,7 +8,7 @@ use native.Mathlib.Omega.{arith}
 use lib.Dec.{T, eqb}
 use lib.Ieee.{Float}
 use lib.IntN.{ℤ, pos, natAbs}
-use lib.ListN.{length}
+use lib.ListN.{length, drop}
 use borrow.Author.Tests.{ltb-true, not-true, le-leb}
 use Rattle.format.specs.declared.kinds.Kind.{Kind}
 use Rattle.format.specs.Encoding.{Held}
@@ -16,21 +16,26 @@ use Rattle.format.specs.Kinds.{kindAt, kindOr}
 use Rattle.format.specs.Lengths.{Form, nothing, onePoint, manyPoints, severalForm, formOf, formIn, formAt}
 use Rattle.format.specs.Lengths
 use Rattle.format.specs.Order.{first}
-use Rattle.format.specs.Said.{gives}
+use Rattle.format.specs.Said.{Said, gives, refuses, wrongSize}
 use Rattle.format.specs.Shapes.{Shape, there, OfKind, ownKind, partsIn, pointsIn}
 use Rattle.format.specs.Units.{sameInt}
 use Rattle.format.proofs.Equations.{parts-null, points-null, parts-point, points-point}
 use Rattle.format.proofs.KindLaws.{code-is}
 use Rattle.format.proofs.LengthLaws.{Flags, form-flags, form-parts, own-kind}
-use Rattle.format.proofs.OrderLaws.{both-true, passed}
-use Rattle.format.proofs.Records.{shape-least}
+use Rattle.format.proofs.OrderLaws.{both-true, passed, first-holds}
+use Rattle.format.proofs.Records.{shape-least, points-least}
 use Rattle.format.proofs.UnitLaws.{same-is}
 use Rattle.layouts.specs.Answers.{countsHeld}
 use Rattle.layouts.specs.Steps.{Agreed}
 use Rattle.layouts.specs.Tables.{pointsLent}
 use Rattle.layouts.proofs.TableLaws.{agreed, parts-in, points-in, several-of-kind}
 use Rattle.writer.specs.declared.State.{State}
-use Rattle.writer.specs.Adding.{Lent, formOr, lentKind, lentForm, pointShape, lentShape, lentAgree, wordsThen, recordSize, addTests, kindThen, nextState, addingOf}
+use Rattle.writer.specs.declared.AddAnswer.{AddAnswer}
+use Rattle.writer.specs.declared.AddAnswer.the-variants as AddIs
+use Rattle.writer.specs.declared.FinishAnswer.{FinishAnswer}
+use Rattle.writer.specs.declared.FinishAnswer.the-variants as FinishIs
+use Rattle.writer.specs.Adding.{Lent, saidAdd, formOr, lentKind, lentForm, pointShape, lentShape, lentAgree, wordsThen, pointsThen, recordSize, addTests, kindThen, nextState, addingOf}
+use Rattle.writer.specs.Finishing.{saidFinish}
 use Rattle.writer.specs.State.{isZero, stateFine}
 use Rattle.writer.proofs.ShapeLaws.{lent-nothing, lent-point, lent-several, several-agree, there-value}
 use Rattle.writer.proofs.StateLaws.{Fine, fine}
@@ -57,6 +62,20 @@ kind-there (some k) e = (refl, form-there (formOf k) e)
 pub adding-is : (s : State) (t : Lent) (out start entry : ℕ) → addingOf s t out start entry ≡ first (addTests s t out start entry) (gives (recordSize t))
 unfolding addingOf
 adding-is s t out start entry = refl
+
+-- a writer state is not refused with 3: all other refusals of adding have another number
+abbrev NotSize : Said ℕ → Type 0
+NotSize (gives n) = Unit {0}
+NotSize (refuses n vs) = n ≡ 3 → ⊥
+
+pub never-size : (s : State) (t : Lent) (out start entry : ℕ) (a : AddAnswer) → stateFine s ≡ true → saidAdd a ≡ addingOf s t out start entry → a ≡ AddIs.Size → ⊥
+unfolding addingOf
+never-size s t out start entry a f e size =
+    let said : NotSize (addingOf s t out start entry) = rw f (first-holds NotSize (drop 1 (addTests s t out start entry)) (gives (recordSize t)) (omega arith) tt) in
+    subst NotSize (sym e ∙ ap saidAdd size) said refl
+
+pub never-finishing : (s : State) (a : FinishAnswer) → stateFine s ≡ true → saidFinish a ≡ cond (stateFine s) (gives tt) (wrongSize 0) → a ≡ FinishIs.Size → ⊥
+never-finishing s a f e size = let same : wrongSize 0 ≡ gives tt = sym (ap saidFinish size) ∙ (e ∙ rw f) in absurd (let z : _≡_ {A = ℕ} 0 1 = cc in omega arith)
 
 pub accepted : (s : State) (t : Lent) (out start entry n : ℕ) → addingOf s t out start entry ≡ gives n → Accepted s t
 unfolding addingOf
@@ -178,10 +197,14 @@ module _ (s : State) (t : Lent) (a : Accepted s t) where
   pub next-room : 50 + 6 * natAbs (s .number) ≤ wordsThen s t
   next-room = omega (arith, a .fine .room, a .fine .number-least, shape-least (lentShape t))
 
+  -- a record has a word for each of its points
+  pub points-room : pointsThen s t ≤ wordsThen s t
+  points-room = omega (arith, a .fine .points-room, points-least (lentShape t))
+
   pub next-fine : stateFine (nextState s t) ≡ true
   unfolding stateFine nextState
   next-fine =
       let n = natAbs (s .number) in
       let least : 50 ≤ wordsThen s t = omega (arith, next-room) in
       let room : 50 + 6 * (n + 1 - 1) ≤ wordsThen s t = omega (arith, next-room) in
-      rw (le-leb 50 (wordsThen s t) least, le-leb 1 (n + 1) (omega arith), next-taken, le-leb (50 + 6 * (n + 1 - 1)) (wordsThen s t) room, next-set)
+      rw (le-leb 50 (wordsThen s t) least, le-leb 1 (n + 1) (omega arith), next-taken, le-leb (50 + 6 * (n + 1 - 1)) (wordsThen s t) room, le-leb (pointsThen s t) (wordsThen s t) points-room, next-set)

@@ -16,8 +16,10 @@ use Rattle.format.specs.declared.units.Words.{Words}
 use Rattle.format.specs.Encoding.{shapeWords, recordBytes, twoBig}
 use Rattle.format.specs.Lengths.{Form, nothing, onePoint, manyPoints, parts}
 use Rattle.format.specs.Said.{unlessRefused}
+use Rattle.format.specs.Shapes.{pointsIn}
 use Rattle.format.proofs.KindLaws.{code-is}
 use Rattle.format.proofs.LengthLaws.{Flags, form-flags, form-several}
+use Rattle.format.proofs.Records.{points-least}
 use Rattle.writer.specs.declared.State.{State}
 use Rattle.writer.specs.declared.AddAnswer.{AddAnswer}
 use Rattle.writer.specs.declared.AddAnswer.the-variants.{Added, Size, Unknown, NotTaken, Mismatch, Tables, Long, Room}
@@ -25,7 +27,7 @@ use Rattle.writer.specs.Adding.{Lent, lentShape, recordSize, recordOf, e
 use Rattle.writer.specs.Judging.{naturalOf, wordsOf, Whole, isRefused, formBy, shapeBy, wordsBy, AllPassed, AllRefused, Ready, kindBy, boxBy, nextBy}
 use Rattle.writer.specs.State.{isZero}
 use Rattle.writer.proofs.LengthLaws.{whole-bytes}
-use Rattle.writer.proofs.ShapeLaws.{lent-kind, lent-form, shape-is, words-are}
+use Rattle.writer.proofs.ShapeLaws.{lent-kind, lent-form, shape-is, words-are, points-lent}
 use Rattle.writer.proofs.StateLaws.{Fine, fine, number-natural}
 
 -- ---- a refusal leaves all as it was
@@ -78,6 +80,12 @@ module _ (s : State) (t : Lent) (out start entry : ℕ) (k : Kind) (w after : Wo
   pub next-number : naturalOf (s .number) + 1 < 2 ^ 31
   next-number = omega (arith, p .shape .held, numbers .room, number-natural s numbers)
 
+  points : pointsIn (lentShape t) ≡ length (t .xs)
+  points = ap pointsIn shape ∙ points-lent k (t .box) (t .counts) (t .xs) (t .ys) (t .zs) (t .ms) (p .shape .agrees)
+
+  pub next-points : s .points + length (t .xs) < 2 ^ 31
+  next-points = omega (arith, points, points-least (lentShape t), numbers .points-room, p .shape .held)
+
   flags : Flags k (formBy k)
   flags = form-flags (t .code) k (formBy k) (p .shape .of-code .kind-is) (rw (p .shape .of-code .kind-is) at (p .shape .of-code .form-is))
 
@@ -97,7 +105,7 @@ module _ (s : State) (t : Lent) (out start entry : ℕ) (k : Kind) (w after : Wo
   box-then manyPoints f = rw (is-zero, f .null-is, form-several k manyPoints f, p .shape .of-code .kind-is)
   box-then parts f = rw (is-zero, f .null-is, form-several k parts f, p .shape .of-code .kind-is)
 
-  pub next-is : nextBy (s .number) after (kindBy s (t .code)) (boxBy s (t .code) k (t .box) (t .xs) (t .ys) (t .zs) (t .ms)) ≡ nextState s t
+  pub next-is : nextBy (s .number) after (kindBy s (t .code)) (s .points + length (t .xs)) (boxBy s (t .code) k (t .box) (t .xs) (t .ys) (t .zs) (t .ms)) ≡ nextState s t
   unfolding nextState
   next-is =
       let form = sym (lent-form t k (p .shape .of-code)) in
@@ -108,6 +116,7 @@ module _ (s : State) (t : Lent) (out start entry : ℕ) (k : Kind) (w after : Wo
         words = p .shape .after-is i;
         number = pos (number-natural s numbers i + 1);
         kind = kind i;
+        points = s .points + sym points i;
         bbox = bbox i;
       }
 

@@ -1,13 +1,13 @@
 -- What is said fixes the answer, and two results that meet a contract of this crate are one: answer, state, both buffers and both headers.
 use mathlib.Core.Path.{_≡_, refl, sym, ap, _∙_}
 use mathlib.Core.Bool.{cond}
-use mathlib.Core.List.{List, [], _∷_}
+use mathlib.Core.List.{List}
 use Prim.Native.Nat.{ℕ}
 use lib.Dec.{eqb}
-use lib.IntN.{ℤ, pos, natAbs}
+use lib.IntN.{natAbs}
 use lib.Seq.{sets}
 use Rattle.format.specs.Said.{Said, gives, refuses, unlessRefused}
-use Rattle.format.proofs.SaidLaws.{value, told-one}
+use Rattle.format.proofs.SaidLaws.{value, second, told-one}
 use Rattle.writer.specs.declared.State.{State}
 use Rattle.writer.specs.declared.AddAnswer.{AddAnswer}
 use Rattle.writer.specs.declared.AddAnswer.the-variants.{Added, Size, Unknown, NotTaken, Mismatch, Tables, Long, Room}
@@ -20,11 +20,6 @@ use Rattle.writer.specs.Finishing.{saidFinish, Finishes}
 
 -- ---- the answers
 
--- the second value that a refusal returns
-second : List ℤ → ℤ
-second [] = pos 0
-second (z ∷ zs) = value zs
-
 tellAdd : Said ℕ → AddAnswer
 tellAdd (gives n) = Added n
 tellAdd (refuses n vs) =
@@ -36,7 +31,7 @@ tellAdd (refuses n vs) =
     (cond (eqb n 9) (NotTaken (value vs)) Tables)))))
 
 pub saidAdd-one : (a b : AddAnswer) → saidAdd a ≡ saidAdd b → a ≡ b
-unfolding tellAdd second
+unfolding tellAdd
 saidAdd-one = told-one saidAdd tellAdd back
   where
     back : (a : AddAnswer) → tellAdd (saidAdd a) ≡ a

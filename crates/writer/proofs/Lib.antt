@@ -2,7 +2,6 @@
 pub mod Accepted
 mod AddLaws
 mod BodyLaws
-mod BoxLaws
 pub mod Determined
 mod JudgeLaws
 pub mod KindLaws

@@ -5,13 +5,19 @@ use native.Mathlib.Omega.{arith}
 use lib.IntN.{pos, natAbs}
 use Rattle.format.specs.Encoding.{Box, headerBytes}
 use Rattle.header.specs.Box.{boxBits}
+use Rattle.boxes.specs.Boxes.{settled}
 use Rattle.writer.specs.declared.State.{State}
-use Rattle.writer.specs.Adding.{Lent, lentForm, wordsThen, kindThen, boxThen, nextState}
-use Rattle.writer.specs.Boxes.{settled}
+use Rattle.writer.specs.Adding.{Lent, lentForm, wordsThen, pointsThen, kindThen, boxThen, nextState}
 use Rattle.writer.specs.Finishing.{shpHeader, shxHeader}
 
 module _ (s : State) (t : Lent) where
-  pub next-is : nextState s t ≡ record { words = record { 0 = pos (wordsThen s t) }; number = pos (natAbs (s .number) + 1); kind = kindThen (lentForm t) s t; bbox = boxThen (lentForm t) s t }
+  pub next-is : nextState s t ≡ record {
+    words = record { 0 = pos (wordsThen s t) };
+    number = pos (natAbs (s .number) + 1);
+    kind = kindThen (lentForm t) s t;
+    points = pointsThen s t;
+    bbox = boxThen (lentForm t) s t;
+  }
   unfolding nextState
   next-is = refl
 
@@ -22,6 +28,10 @@ module _ (s : State) (t : Lent) where
   pub number-next : nextState s t .number ≡ pos (natAbs (s .number) + 1)
   unfolding nextState
   number-next = refl
+
+  pub points-next : nextState s t .points ≡ pointsThen s t
+  unfolding nextState
+  points-next = refl
 
   abbrev box : Box
   box = boxBits (settled (nextState s t .bbox))

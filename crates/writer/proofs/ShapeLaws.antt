@@ -11,16 +11,16 @@ use Rattle.format.specs.declared.kinds.Kind.{Kind}
 use Rattle.format.specs.Encoding.{shapeWords}
 use Rattle.format.specs.Kinds.{kindOr}
 use Rattle.format.specs.Lengths.{nothing, onePoint, isMultipoint, hasSeveral, severalForm, formula, contentWords, formulaWords}
-use Rattle.format.specs.Shapes.{null, there}
+use Rattle.format.specs.Shapes.{null, there, pointsIn}
 use Rattle.format.proofs.Equations as Equations
-use Rattle.format.proofs.Equations.{words-point}
+use Rattle.format.proofs.Equations.{words-point, points-null, points-point}
 use Rattle.format.proofs.Laid.{nothing-words, null-words}
 use Rattle.format.proofs.LengthLaws.{null-kind}
 use Rattle.header.specs.declared.bbox.BBoxZ.{BBoxZ}
 use Rattle.layouts.specs.Answers.{agree, countsHeld}
 use Rattle.layouts.specs.Steps.{Agreed}
 use Rattle.layouts.specs.Tables.{severalOf, pointsLent}
-use Rattle.layouts.proofs.TableLaws.{agreed, no-counts, words-in}
+use Rattle.layouts.proofs.TableLaws.{agreed, no-counts, points-in, words-in}
 use Rattle.writer.specs.Adding.{Lent, formOr, lentKind, lentForm, valueOf, pointShape, lentShape, lentAgree}
 use Rattle.writer.specs.Judging.{OfCode, formBy, single, pointsBy, agreeBy, shapeBy, wordsBy}
 
@@ -97,7 +97,7 @@ module _ (k : Kind) (counts : List ℕ) (xs ys zs ms : List Float) (e : agreeBy 
       go true h a = refl
       go false h a = rw (not-parts (k .parts) (isMultipoint k) h) (sym a)
 
--- ---- the words of the shape
+-- ---- the words of the shape, and its points
 
 pub there-value : (flag : Bool) (vs : List Float) → length vs ≡ cond flag 1 0 → there (valueOf flag vs) ≡ flag
 there-value true [] e = absurd (omega arith)
@@ -109,6 +109,11 @@ point-words k [] ys zs ms a = absurd (omega (arith, a .xs-has))
 point-words k (x ∷ xs) [] zs ms a = absurd (omega (arith, a .ys-has))
 point-words k (x ∷ xs) (y ∷ ys) zs ms a = rw (words-point, there-value (k .z) zs (a .zs-has), there-value (k .m) ms (a .ms-has))
 
+point-points : (k : Kind) (xs ys zs ms : List Float) → Agreed (k .z) (k .m) 1 xs ys zs ms → pointsIn (pointShape k xs ys zs ms) ≡ 1
+point-points k [] ys zs ms a = absurd (omega (arith, a .xs-has))
+point-points k (x ∷ xs) [] zs ms a = absurd (omega (arith, a .ys-has))
+point-points k (x ∷ xs) (y ∷ ys) zs ms a = points-point _ _ _
+
 module _ (k : Kind) (b : BBoxZ) (counts : List ℕ) (xs ys zs ms : List Float) (e : agreeBy k counts xs ys zs ms ≡ true) where
   pub words-are : shapeWords (shapeBy k b counts xs ys zs ms) ≡ wordsBy k counts xs
   words-are = go (hasSeveral k) (eqb (k .code) 0) refl refl (tables k counts xs ys zs ms e)
@@ -117,6 +122,15 @@ module _ (k : Kind) (b : BBoxZ) (counts : List ℕ) (xs ys zs ms : List Float) (
       go true z q r a = rw q (words-in (k .z) (k .m) b counts xs ys zs ms (k .parts) (both k counts xs ys zs ms e .0) (rw q at a))
       go false true q r a = rw (q, r, no-parts k counts xs ys zs ms e q) (null-words ∙ sym (nothing-words (k .z) (k .m)))
       go false false q r a = rw (q, r, no-parts k counts xs ys zs ms e q) (point-words k xs ys zs ms (rw (q, r) at a))
+
+  -- a point for each x
+  pub points-lent : pointsIn (shapeBy k b counts xs ys zs ms) ≡ length xs
+  points-lent = go (hasSeveral k) (eqb (k .code) 0) refl refl (tables k counts xs ys zs ms e) ∙ sym (tables k counts xs ys zs ms e .xs-has)
+    where
+      go : (s z : Bool) → hasSeveral k ≡ s → eqb (k .code) 0 ≡ z → Agreed (k .z) (k .m) (pointsBy k counts xs) xs ys zs ms → pointsIn (shapeBy k b counts xs ys zs ms) ≡ pointsBy k counts xs
+      go true z q r a = rw q (points-in (k .z) (k .m) b counts xs ys zs ms (k .parts) (rw q at a))
+      go false true q r a = rw (q, r) points-null
+      go false false q r a = rw (q, r) (point-points k xs ys zs ms (rw (q, r) at a))
 
   pub counts-held : ltb (length counts) (2 ^ 31) && ltb (pointsBy k counts xs) (2 ^ 31) ≡ countsHeld (k .parts) counts xs
   counts-held = ap (λ (n : ℕ). ltb (length counts) (2 ^ 31) && ltb n (2 ^ 31)) (points-are k counts xs ys zs ms e)

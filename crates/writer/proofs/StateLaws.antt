@@ -15,12 +15,13 @@ use Rattle.format.specs.Kinds.{known, kindAt}
 use Rattle.format.specs.Lengths.{formAt}
 use Rattle.format.specs.Shapes.{there}
 use Rattle.format.proofs.KindLaws.{code-is, known-there}
+use Rattle.format.proofs.LengthLaws.{null-row, null-form}
 use Rattle.format.proofs.OrderLaws.{both-true}
 use Rattle.writer.specs.declared.State.{State}
 use Rattle.writer.specs.declared.states.Looked.{Looked}
 use Rattle.writer.specs.declared.states.Looked.the-variants.{Taken}
 use Rattle.writer.specs.Judging.{naturalOf, byKind, lookUp, countsFine}
-use Rattle.writer.specs.State.{atLeast, isZero, stateFine}
+use Rattle.writer.specs.State.{fresh, atLeast, isZero, stateFine}
 use Rattle.writer.proofs.KindLaws.{isTaken, taken-is, looked-kind}
 
 -- ---- a number, or 0 for one below
@@ -39,35 +40,42 @@ natural-lt (negsuc n) h e = absurd (subst T e tt)
 
 -- ---- the tests of a state, by its numbers
 
-regroup : (a b d e : Bool) → a && b && true && d && e ≡ a && (b && (d && e))
-regroup true true d e = refl
-regroup true false d e = refl
-regroup false b d e = refl
+regroup : (a b d e g : Bool) → a && b && true && d && e && g ≡ a && (b && (d && (e && g)))
+regroup true true true e g = refl
+regroup true true false e g = refl
+regroup true false d e g = refl
+regroup false b d e g = refl
 
-ends : (a b d e : Bool) → a && b && false && d && e ≡ false
-ends true true d e = refl
-ends true false d e = refl
-ends false b d e = refl
+ends : (a b d e g : Bool) → a && b && false && d && e && g ≡ false
+ends true true d e g = refl
+ends true false d e g = refl
+ends false b d e g = refl
 
 -- a number below 0 fails the first test that asks for it, and so does the 0 in its place
-pub fine-by : (w n : ℤ) (z : Bool) → atLeast 50 w && atLeast 1 n && true && leb (50 + 6 * (natAbs n - 1)) (natAbs w) && (not z || (eqb (natAbs w) 50 && eqb (natAbs n) 1)) ≡ countsFine (naturalOf w) (naturalOf n) z
-fine-by (pos w) (pos n) z = regroup (leb 50 w) (leb 1 n) (leb (50 + 6 * (n - 1)) w) (not z || (eqb w 50 && eqb n 1))
-fine-by (pos w) (negsuc n) z = regroup (leb 50 w) false _ _
-fine-by (negsuc w) n z = refl
+pub fine-by : (w n : ℤ) (points : ℕ) (z : Bool)
+    → atLeast 50 w && atLeast 1 n && true && leb (50 + 6 * (natAbs n - 1)) (natAbs w) && leb points (natAbs w) && (not z || (eqb (natAbs w) 50 && eqb (natAbs n) 1)) ≡ countsFine (naturalOf w) (naturalOf n) points z
+fine-by (pos w) (pos n) points z = regroup (leb 50 w) (leb 1 n) (leb (50 + 6 * (n - 1)) w) (leb points w) (not z || (eqb w 50 && eqb n 1))
+fine-by (pos w) (negsuc n) points z = regroup (leb 50 w) false _ _ _
+fine-by (negsuc w) n points z = refl
 
 module _ (s : State) where
-  pub fine-taken : (k : Kind) (f : Formula) → lookUp (s .kind) ≡ Taken k f → countsFine (naturalOf (s .words .0)) (naturalOf (s .number)) (eqb (k .code) 0) ≡ stateFine s
+  pub fine-taken : (k : Kind) (f : Formula) → lookUp (s .kind) ≡ Taken k f → countsFine (naturalOf (s .words .0)) (naturalOf (s .number)) (s .points) (eqb (k .code) 0) ≡ stateFine s
   unfolding stateFine
   fine-taken k f e =
       let t : there (formAt (s .kind)) ≡ true = taken-is (s .kind) ∙ ap isTaken e in
       let z : isZero (s .kind) ≡ eqb (k .code) 0 = ap isZero (code-is (s .kind) k (looked-kind (s .kind) k f e)) in
-      rw (t, z) (sym (fine-by (s .words .0) (s .number) (eqb (k .code) 0)))
+      rw (t, z) (sym (fine-by (s .words .0) (s .number) (s .points) (eqb (k .code) 0)))
 
   pub fine-no : (r : Looked) → lookUp (s .kind) ≡ r → isTaken r ≡ false → false ≡ stateFine s
   unfolding stateFine
   fine-no r e n =
       let t : there (formAt (s .kind)) ≡ false = taken-is (s .kind) ∙ (ap isTaken e ∙ n) in
-      rw t (sym (ends (atLeast 50 (s .words .0)) (atLeast 1 (s .number)) _ _))
+      rw t (sym (ends (atLeast 50 (s .words .0)) (atLeast 1 (s .number)) _ _ _))
+
+-- the fresh one is a writer state: 0 is a taken kind
+pub fresh-fine : stateFine fresh ≡ true
+unfolding stateFine
+fresh-fine = rw (null-row, null-form)
 
 -- ---- what holds of a writer state
 
@@ -95,12 +103,14 @@ pub record Fine (s : State) : Type 0 where
   pub kind-is : s .kind ≡ pos (natAbs (s .kind))
   pub kind-known : known (pos (natAbs (s .kind))) ≡ true
   pub kind-taken : there (formAt (s .kind)) ≡ true
+  pub points-room : s .points ≤ natAbs (s .words .0)
   pub at-start : isZero (s .kind) ≡ true → natAbs (s .number) ≡ 1
 
 pub fine : (s : State) → stateFine s ≡ true → Fine s
 unfolding stateFine lookUp
 fine s e =
-    let p4 = both-true _ _ e in
+    let p5 = both-true _ _ e in
+    let p4 = both-true _ _ (p5 .0) in
     let p3 = both-true _ _ (p4 .0) in
     let p2 = both-true _ _ (p3 .0) in
     let p1 = both-true _ _ (p2 .0) in
@@ -115,7 +125,8 @@ fine s e =
       kind-is = k;
       kind-known = sym (ap known k) ∙ (known-there (s .kind) ∙ some-kind (kindAt (s .kind)) (sym (taken-is (s .kind)) ∙ p2 .1));
       kind-taken = p2 .1;
-      at-start = at-first (isZero (s .kind)) (natAbs (s .words .0)) (natAbs (s .number)) (p4 .1);
+      points-room = leb-true _ _ (p4 .1);
+      at-start = at-first (isZero (s .kind)) (natAbs (s .words .0)) (natAbs (s .number)) (p5 .1);
     }
 
 -- its numbers without their signs, and the words of its index

@@ -15,16 +15,16 @@ use Rattle.format.specs.Kinds.{known, kind, kindAt, kindOr}
 use Rattle.format.specs.Lengths.{Form, nothing, onePoint, manyPoints, parts, formAt}
 use Rattle.format.specs.Order.{first}
 use Rattle.format.specs.Said.{Said, gives, wrongSize, unknown, notTaken, mismatch, tables, long, roomBytes, unlessRefused}
-use Rattle.format.specs.Shapes.{Shape, null, point, multipoint, parted, there}
+use Rattle.format.specs.Shapes.{Shape, null, point, multipoint, parted, there, pointsIn}
 use Rattle.format.specs.Units.{sameInt}
 use Rattle.header.specs.declared.bbox.BBoxZ.{BBoxZ}
+use Rattle.boxes.specs.Boxes.{startBox, grown, flat, pointBox}
 use Rattle.layouts.specs.Answers.{agree, countsHeld}
 use Rattle.layouts.specs.Tables.{bits, pointsOf, multipointOf, partsOf}
 use Rattle.writer.specs.declared.State.{State}
 use Rattle.writer.specs.declared.AddAnswer.{AddAnswer}
 use Rattle.writer.specs.declared.AddAnswer.the-variants.{Added, Size, Unknown, NotTaken, Mismatch, Tables, Long, Room}
 use Rattle.writer.specs.declared.Adding.{Adding}
-use Rattle.writer.specs.Boxes.{startBox, grown, flat, pointBox}
 use Rattle.writer.specs.State.{isZero, stateFine}
 
 -- what a caller lends: the kind's code, the box with the ranges, and the tables
@@ -104,6 +104,10 @@ lentAgree t = by-form (lentForm t)
 abbrev pub wordsThen : State → Lent → ℕ
 wordsThen s t = natAbs (s .words .0) + (4 + shapeWords (lentShape t))
 
+-- the points of the file with the record
+abbrev pub pointsThen : State → Lent → ℕ
+pointsThen s t = s .points + pointsIn (lentShape t)
+
 -- an i32 holds the counts and the file's words
 abbrev pub heldThen : State → Lent → Bool
 heldThen s t = countsHeld (lentKind t .parts) (t .counts) (t .xs) && ltb (wordsThen s t) (2 ^ 31)
@@ -167,6 +171,7 @@ nextState s t =
       words = record { 0 = pos (wordsThen s t) };
       number = pos (natAbs (s .number) + 1);
       kind = kindThen (lentForm t) s t;
+      points = pointsThen s t;
       bbox = boxThen (lentForm t) s t;
     }
 

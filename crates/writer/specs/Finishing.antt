@@ -8,11 +8,11 @@ use lib.ListN.{replicate}
 use Rattle.format.specs.Encoding.{headerBytes}
 use Rattle.format.specs.Said.{Said, gives, wrongSize}
 use Rattle.header.specs.Box.{boxBits}
+use Rattle.boxes.specs.Boxes.{settled}
 use Rattle.writer.specs.declared.State.{State}
 use Rattle.writer.specs.declared.FinishAnswer.{FinishAnswer}
 use Rattle.writer.specs.declared.FinishAnswer.the-variants.{Finished, Size}
 use Rattle.writer.specs.declared.Finishing.{Finishing}
-use Rattle.writer.specs.Boxes.{settled}
 use Rattle.writer.specs.State.{stateFine}
 
 unfoldable pub shpHeader : State → List ℕ

@@ -22,6 +22,7 @@ use Rattle.format.specs.Said.{Said, gives}
 use Rattle.format.specs.Shapes.{Shape, null, sum}
 use Rattle.format.specs.Units.{inBytes}
 use Rattle.header.specs.declared.bbox.BBoxZ.{BBoxZ}
+use Rattle.boxes.specs.Boxes.{grown, flat, pointBox}
 use Rattle.layouts.specs.Answers.{countsHeld}
 use Rattle.layouts.specs.Tables.{severalOf, pointsLent}
 use Rattle.writer.specs.declared.State.{State}
@@ -40,7 +41,6 @@ use Rattle.writer.specs.declared.judge.RoomJudged.the-variants.{Fits, Ne
 use Rattle.writer.specs.declared.judge.Judged.{Judged}
 use Rattle.writer.specs.declared.judge.Judged.the-variants as JudgedIs
 use Rattle.writer.specs.Adding.{Lent, pointShape, lentShape, wordsThen, recordSize, heldBox, kindTests, shapeTests, addingOf, saidAdd}
-use Rattle.writer.specs.Boxes.{grown, flat, pointBox}
 use Rattle.writer.specs.State.{isZero, stateFine}
 
 -- ---- numbers and kinds
@@ -84,9 +84,9 @@ unfoldable pub lookUp : ℤ → Looked
 lookUp code = byKind (kindAt code)
 
 -- what is asked of a state's numbers; `first` says that its kind is 0
-abbrev pub countsFine : ℕ → ℕ → Bool → Bool
-countsFine words number first =
-    leb 50 words && (leb 1 number && (leb (50 + 6 * (number - 1)) words && (not first || (eqb words 50 && eqb number 1))))
+abbrev pub countsFine : ℕ → ℕ → ℕ → Bool → Bool
+countsFine words number points first =
+    leb 50 words && (leb 1 number && (leb (50 + 6 * (number - 1)) words && (leb points words && (not first || (eqb words 50 && eqb number 1)))))
 
 -- ---- a taken kind has several points, nothing or one point; by it the shape, its points and its words
 
@@ -215,5 +215,5 @@ ownBy k b xs ys zs ms = flat k (cond (hasSeveral k) b (pointBox xs ys zs ms))
 abbrev pub boxBy : State → ℤ → Kind → BBoxZ → List Float → List Float → List Float → List Float → BBoxZ
 boxBy s code k b xs ys zs ms = cond (isZero code) (s .bbox) (grown (ownBy k b xs ys zs ms) (heldBox s))
 
-abbrev pub nextBy : ℤ → Words → ℤ → BBoxZ → State
-nextBy number after kind b = record { words = after; number = pos (naturalOf number + 1); kind = kind; bbox = b }
+abbrev pub nextBy : ℤ → Words → ℤ → ℕ → BBoxZ → State
+nextBy number after kind points b = record { words = after; number = pos (naturalOf number + 1); kind = kind; points = points; bbox = b }

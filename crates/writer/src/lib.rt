@@ -6,17 +6,17 @@ use header::Header;
 use header::bbox::BBoxZ;
 use judge::Judged;
 
-pub mod boxes;
 mod judge;
 mod record;
 pub mod states;
 
-// The words written so far, the next record's number, the kind's code and the header's box.
+// The words written so far, the next record's number, the kind's code, the points written so far and the header's box.
 #[repr(C)]
 pub struct State {
     pub words: Words,
     pub number: i32,
     pub kind: i32,
+    pub points: u32,
     pub bbox: BBoxZ,
 }
 
@@ -110,6 +110,7 @@ pub fn add_record(
             let n = state.number;
             let words = state.words;
             let kind = record::next_kind(state, code);
+            let points = record::next_points(state, xs.len());
             let bounds = record::next_box(state, code, k, bbox, xs, ys, zs, ms);
             record::put_record(
                 &mut out[start..],
@@ -127,7 +128,7 @@ pub fn add_record(
             record::put_entry(entry, words, w);
             Adding {
                 answer: AddAnswer::Added(judge::in_memory(size)),
-                state: record::next_state(n, after, kind, bounds),
+                state: record::next_state(n, after, kind, points, bounds),
             }
         }
     }

@@ -102,9 +102,9 @@ fn own_box(k: Kind, bbox: BBoxZ, xs: &[f64], ys: &[f64], zs: &[f64], ms: &[f64])
 {
     let several = format::lengths::has_several(k);
     if several {
-        return crate::boxes::flat_box(k, bbox);
+        return boxes::flat_box(k, bbox);
     }
-    crate::boxes::flat_box(k, crate::boxes::point_box(xs, ys, zs, ms))
+    boxes::flat_box(k, boxes::point_box(xs, ys, zs, ms))
 }
 
 // The box that it finds.
@@ -112,7 +112,7 @@ fn held_box(state: State) -> BBoxZ
     ensures { λ r. ⌜ r ≡ heldBox state ⌝ }
 {
     if state.kind == 0 {
-        return crate::boxes::start_box();
+        return boxes::start_box();
     }
     state.bbox
 }
@@ -141,19 +141,28 @@ pub(crate) fn next_box(
         return state.bbox;
     }
     let own = own_box(k, bbox, xs, ys, zs, ms);
-    crate::boxes::grow(own, held_box(state))
+    boxes::grow(own, held_box(state))
 }
 
-// The state behind the record with this number, with which the file has so many words.
-pub(crate) fn next_state(number: i32, after: Words, kind: i32, bounds: BBoxZ) -> State
+// The points of the file with these more.
+pub(crate) fn next_points(state: State, more: usize) -> u32
+    requires { ⌜ state .points + more < 2 ^ 31 ⌝ }
+    ensures { λ r. ⌜ r ≡ state .points + more ⌝ }
+{
+    state.points + more as u32
+}
+
+// The state behind the record with this number, with which the file has so many words and points.
+pub(crate) fn next_state(number: i32, after: Words, kind: i32, points: u32, bounds: BBoxZ) -> State
     requires { ⌜ naturalOf number + 1 < 2 ^ 31 ⌝ }
-    ensures { λ r. ⌜ r ≡ nextBy number after kind bounds ⌝ }
+    ensures { λ r. ⌜ r ≡ nextBy number after kind points bounds ⌝ }
 {
     let next = natural(number) + 1;
     State {
         words: after,
         number: next as i32,
         kind,
+        points,
         bbox: bounds,
     }
 }

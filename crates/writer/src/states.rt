@@ -38,6 +38,7 @@ impl State {
             words: Words(50),
             number: 1,
             kind: 0,
+            points: 0,
             bbox: bounds,
         }
     }
@@ -75,9 +76,9 @@ pub(crate) fn look_up(code: i32) -> Looked
     }
 }
 
-// Words at least 50, number at least 1, words for that many records, and of kind 0 only the start.
-fn counts_fine(words: Words, number: i32, first: bool) -> bool
-    ensures { λ r. ⌜ r ≡ countsFine (naturalOf (words .0)) (naturalOf number) first ⌝ }
+// Words at least 50, number at least 1, words for that many records and that many points, and of kind 0 only the start.
+fn counts_fine(words: Words, number: i32, points: u32, first: bool) -> bool
+    ensures { λ r. ⌜ r ≡ countsFine (naturalOf (words .0)) (naturalOf number) points first ⌝ }
 {
     let w = count(words);
     let n = natural(number);
@@ -88,6 +89,9 @@ fn counts_fine(words: Words, number: i32, first: bool) -> bool
         return false;
     }
     if w < 50 + 6 * (n - 1) {
+        return false;
+    }
+    if w < points as u64 {
         return false;
     }
     if first {
@@ -103,7 +107,7 @@ pub fn state_fine(s: State) -> bool
 {
     let words = s.words;
     match look_up(s.kind) {
-        Looked::Taken(k, _) => counts_fine(words, s.number, k.code == 0),
+        Looked::Taken(k, _) => counts_fine(words, s.number, s.points, k.code == 0),
         Looked::NotTaken => false,
         Looked::Unknown => false,
     }

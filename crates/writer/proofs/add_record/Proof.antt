@@ -14,7 +14,7 @@ use Rattle.format.specs.Encoding.{recordBytes}
 use Rattle.format.specs.Said.{gives}
 use Rattle.writer.specs.Adding.{Lent, lent}
 use Rattle.writer.specs.Judging.{shapeBy, kindBy, boxBy, nextBy, AllPassed, AllRefused, Judges}
-use Rattle.writer.proofs.AddLaws.{adds-refused, starts, whole, ready, size-whole, code, content, next-number, next-is, record-of, entry-of}
+use Rattle.writer.proofs.AddLaws.{adds-refused, starts, whole, ready, size-whole, code, content, next-number, next-points, next-is, record-of, entry-of}
 use Rattle.writer.proofs.StoreLaws.{tail-length, tail-stored}
 use Rattle.writer.proofs.add_record.Statement.{statement}
 use Rattle.writer.proofs.add_record.Tie as tie
@@ -53,7 +53,10 @@ kind-fits c = search needs
 
 -- the kind that passed, from where the next state's kind and box are made
 abbrev k-of : tie.After-next-box → tie.After-k
-k-of c = c .before .before .before .before .before
+k-of c = c .before .before .before .before .before .before
+
+next-points-requires : tie.Need-next-points-requires
+next-points-requires c κs = next-points _ _ _ _ _ _ _ _ _ (passed (c .before .before .before .before))
 
 sub-put-record : tie.Need-sub-put-record
 sub-put-record c = starts _ _ _ _ _ _ _ _ _ (passed (k-of c))
@@ -82,8 +85,9 @@ next-state-requires c κs =
 
 returns : tie.Need-returns
 returns c =
-    let s = start-of (c .before .before .before) in
-    adds-refused (s .args .state) (lent-of s) (s .args .out .now) (s .args .start) (s .args .entry .now) _ (refused (c .before))
+    let answer = c .before in
+    let s = start-of (answer .before .before) in
+    adds-refused (s .args .state) (lent-of s) (s .args .out .now) (s .args .start) (s .args .entry .now) _ (refused answer)
 
 returns-2 : tie.Need-returns-2
 returns-2 c =
@@ -97,14 +101,16 @@ returns-2 c =
     let p = passed k in
     let number = toZ-ofZ w32 _ (number-fits s) in
     let same = toZ-ofZ w32 _ (s .fits .code) in
-    let kind = toZ-ofZ w32 _ (kind-fits (b .before)) ∙ (b .before .next-kind .ensures ∙ ap (kindBy (a .state)) same) in
+    let kinds = b .before .before in
+    let kind = toZ-ofZ w32 _ (kind-fits kinds) ∙ (kinds .next-kind .ensures ∙ ap (kindBy (a .state)) same) in
+    let points = b .before .next-points .ensures in
     let bounds = b .next-box .ensures ∙ ap (λ (z : ℤ). boxBy (a .state) z (k .k .given .0 .0) (a .bbox) (a .xs .now) (a .ys .now) (a .zs .now) (a .ms .now)) same in
     let shape = shapeBy (k .k .given .0 .0) (a .bbox) (a .counts .now) (a .xs .now) (a .ys .now) (a .zs .now) (a .ms .now) in
     let tail = midOf (a .start) (length (a .out .now) - a .start) (a .out .now) in
     let stored = q .put-record .ensures ∙ (λ i. sets tail 0 (recordBytes (k .k .given .0 .0) (ofZ w32 (number i)) shape)) in
     record {
       says = ap gives (m .in-memory .ensures) ∙ p .says;
-      state-is = c .next-state .ensures ∙ ((λ i. nextBy (number i) (k .k .given .0 .1 .1 .0) (kind i) (bounds i)) ∙ next-is _ _ _ _ _ _ _ _ _ p);
+      state-is = c .next-state .ensures ∙ ((λ i. nextBy (number i) (k .k .given .0 .1 .1 .0) (kind i) (points i) (bounds i)) ∙ next-is _ _ _ _ _ _ _ _ _ p);
       out-is = tail-stored (a .start) (a .out .now) (q .put-record .last .0) (recordBytes (k .k .given .0 .0) (ofZ w32 (a .state .number)) shape) stored ∙ ap (λ (l : List ℕ). sets (a .out .now) (a .start) l) (record-of _ _ _ _ _ _ _ _ _ p);
       entry-is = t .put-entry .ensures ∙ ap (λ (l : List ℕ). sets (a .entry .now) 0 l) (entry-of _ _ _ _ _ _ _ _ _ p);
     }
@@ -113,7 +119,9 @@ pub add-record-spec : {M : Type 1} → statement M
 add-record-spec =
     tie.close
     (tie.spec
-    (λ c κs. search needs) (λ c. search needs) (λ c. search needs) (λ c κs. search needs) (λ c κs. search needs)
+    (λ c κs. search needs) (λ c. search needs) (λ c. search needs) (λ c κs. search needs)
+    next-points-requires
+    (λ c κs. search needs)
     sub-put-record
     part-put-record-start
     (λ c. search needs)

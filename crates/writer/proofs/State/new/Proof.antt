@@ -1,5 +1,5 @@
 -- `State::new` meets its contract: the code's 0.0 is the definition's 0.
-use Rattle.writer.proofs.BoxLaws.{zero-is}
+use Rattle.boxes.proofs.BoxLaws.{zero-is}
 use Rattle.writer.proofs.State.new.Statement.{statement}
 use Rattle.writer.proofs.State.new.Tie as tie
 

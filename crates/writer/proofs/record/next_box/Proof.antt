@@ -1,7 +1,7 @@
 -- `record::next_box` meets its contract, by whether the record is Null.
 use mathlib.Core.Path.{_∙_}
 use borrow.Author.Needs.{needs}
-use Rattle.writer.specs.Boxes.{grown}
+use Rattle.boxes.specs.Boxes.{grown}
 use Rattle.writer.proofs.JudgeLaws.{zero-yes, zero-no}
 use Rattle.writer.proofs.record.next_box.Statement.{statement}
 use Rattle.writer.proofs.record.next_box.Tie as tie

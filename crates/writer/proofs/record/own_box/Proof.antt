@@ -2,7 +2,7 @@
 use mathlib.Core.Path.{_≡_, sym, ap, _∙_}
 use mathlib.Core.Bool.{true, false}
 use borrow.Author.Needs.{needs}
-use Rattle.writer.specs.Boxes.{flat}
+use Rattle.boxes.specs.Boxes.{flat}
 use Rattle.writer.proofs.record.own_box.Statement.{statement}
 use Rattle.writer.proofs.record.own_box.Tie as tie
 

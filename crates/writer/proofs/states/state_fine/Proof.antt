@@ -25,7 +25,7 @@ returns c = let k = c .before .before .before .before in
     let a = l .before .before .before in
     let n = toZ-ofZ w32 _ (number-fits a) in
     c .counts-fine .ensures
-    ∙ ((λ i. countsFine (naturalOf (a .args .s .words .0)) (naturalOf (n i)) (eqb (k .k .given .0 .0 .code) 0))
+    ∙ ((λ i. countsFine (naturalOf (a .args .s .words .0)) (naturalOf (n i)) (a .args .s .points) (eqb (k .k .given .0 .0 .code) 0))
     ∙ fine-taken (a .args .s) (k .k .given .0 .0) _ (looked l ∙ k .k .given .1))
 
 returns-2 : tie.Need-returns-2

@@ -1,0 +1,14 @@
+-- `boxes::flat_box` meets its contract, value by value.
+use borrow.Author.Needs.{needs}
+use Rattle.boxes.proofs.flat_box.Statement.{statement}
+use Rattle.boxes.proofs.flat_box.Tie as tie
+
+returns : tie.Need-returns
+returns c = cc
+
+pub flat-box-spec : {M : Type 1} → statement M
+flat-box-spec =
+    tie.close
+    (tie.spec
+    (λ c κs. search needs) (λ c κs. search needs) (λ c κs. search needs) (λ c κs. search needs)
+    returns)

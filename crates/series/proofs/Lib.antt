@@ -1,0 +1,2 @@
+-- What holds of every series: After has the theorems.
+pub mod After
