@@ -103,7 +103,11 @@ mbenaruul_pair_checked mbenaruul_check_pair(const uint8_t *shp, size_t shp_n, co
  * (1, 21, 11) has no counts and n is 1; a multipoint (8, 28, 18) has no counts, and n is what x and y have, 0 too.
  * Of tables only the lengths are judged: a ring that is open, NaN, a part of one point, a multipoint of none, a box that is not the true one are
  * written as given. */
-typedef struct { int32_t words, number, kind; mbenaruul_bbox bbox; } mbenaruul_state;
+/* words: those of the .shp so far; number: the next record's; kind: the file's, 0 before the first record; bbox: the headers'.
+ * points: those of all records so far, for a progress bar. Each record adds its own: a point 1, a Null record 0, a multipoint n, parts what they sum to.
+ * Adding and finishing refuse a state with 3: words below 50, or below 50 + 6 for each record before number; number below 1; a kind that is not 0 and none
+ * of the twelve above; kind 0 with other words than 50 or another number than 1; points over words. */
+typedef struct { int32_t words, number, kind; uint32_t points; mbenaruul_bbox bbox; } mbenaruul_state;
 mbenaruul_state mbenaruul_new(void);
 /* The record is put into out from start on, and its entry into the first 8 bytes of entry; no other byte is touched. bytes: those of the record.
  * The next record takes the state that comes back. */
@@ -156,7 +160,7 @@ MBENARUUL_LIES(record_read, 152, MBENARUUL_AT(record_read, refusal, 0, 24) MBENA
 MBENARUUL_LIES(totals, 24, MBENARUUL_AT(totals, records, 0, 8) MBENARUUL_AT(totals, parts, 8, 16) MBENARUUL_AT(totals, points, 16, 24));
 MBENARUUL_LIES(pair_checked, 48, MBENARUUL_AT(pair_checked, refusal, 0, 24) MBENARUUL_AT(pair_checked, totals, 24, 48));
 MBENARUUL_LIES(state, 80, MBENARUUL_AT(state, words, 0, 4) MBENARUUL_AT(state, number, 4, 8) MBENARUUL_AT(state, kind, 8, 12)
-               MBENARUUL_AT(state, bbox, 16, 80));
+               MBENARUUL_AT(state, points, 12, 16) MBENARUUL_AT(state, bbox, 16, 80));
 MBENARUUL_LIES(added, 112, MBENARUUL_AT(added, refusal, 0, 24) MBENARUUL_AT(added, bytes, 24, 32) MBENARUUL_AT(added, state, 32, 112));
 MBENARUUL_LIES(written, 32, MBENARUUL_AT(written, refusal, 0, 24) MBENARUUL_AT(written, bytes, 24, 32));
 MBENARUUL_LIES(finished, 224, MBENARUUL_AT(finished, refusal, 0, 24) MBENARUUL_AT(finished, shp, 24, 124) MBENARUUL_AT(finished, shx, 124, 224));

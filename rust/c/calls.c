@@ -21,7 +21,7 @@ static int is(mbenaruul_refusal r, uint32_t number, uint64_t first, uint64_t sec
 }
 
 static int same_state(mbenaruul_state a, mbenaruul_state b) {
-    return a.words == b.words && a.number == b.number && a.kind == b.kind && memcmp(&a.bbox, &b.bbox, sizeof a.bbox) == 0;
+    return a.words == b.words && a.number == b.number && a.kind == b.kind && a.points == b.points && memcmp(&a.bbox, &b.bbox, sizeof a.bbox) == 0;
 }
 
 static uint32_t counts[] = {2};
@@ -39,7 +39,7 @@ static mbenaruul_state one_run(uint8_t *shp, uint8_t *shx) {
     mbenaruul_finished f = mbenaruul_finish(a.state);
 
     CHECK(is(a.refusal, 0, 0, 0) && a.bytes == 88);
-    CHECK(a.state.words == 94 && a.state.number == 2 && a.state.kind == 3);
+    CHECK(a.state.words == 94 && a.state.number == 2 && a.state.kind == 3 && a.state.points == 2);
     CHECK(a.state.bbox.xmin == 1 && a.state.bbox.ymin == 2 && a.state.bbox.xmax == 3 && a.state.bbox.ymax == 4);
     CHECK(a.state.bbox.zmin == 0 && a.state.bbox.zmax == 0 && a.state.bbox.mmin == 0 && a.state.bbox.mmax == 0);
     CHECK(is(f.refusal, 0, 0, 0));
@@ -110,6 +110,11 @@ static void records(const uint8_t *content) {
     CHECK(is(r.refusal, 0, 0, 0) && r.code == 0 && r.form == 0);
 }
 
+/* The call was refused so, and the state that it was given came back. */
+static int gives_back(mbenaruul_added a, mbenaruul_state s, uint32_t number, uint64_t first, uint64_t second) {
+    return is(a.refusal, number, first, second) && a.bytes == 0 && same_state(a.state, s);
+}
+
 static void refusals_of_adding(mbenaruul_state s) {
     uint8_t out[88] = {0}, entry[8] = {0};
     const uint8_t untouched[88] = {0};
@@ -118,15 +123,14 @@ static void refusals_of_adding(mbenaruul_state s) {
 
     full.words = 0x7ffffff0;
     bad.words = -5;
-    CHECK(is(add(bad, 3, 2, out, 88, entry, 8).refusal, 3, 0, 0) && add(bad, 3, 2, out, 88, entry, 8).state.words == -5);
-    CHECK(is(add(s, 99, 2, out, 88, entry, 8).refusal, 4, 99, 0));
-    CHECK(is(add(s, 31, 2, out, 88, entry, 8).refusal, 9, 31, 0));
-    CHECK(is(add(s, 5, 2, out, 88, entry, 8).refusal, 5, 3, 5));
-    CHECK(is(add(s, 3, 1, out, 88, entry, 8).refusal, 10, 0, 0));
-    CHECK(is(add(full, 3, 2, out, 88, entry, 8).refusal, 7, 0, 0));
-    CHECK(is(add(s, 3, 2, out, 87, entry, 8).refusal, 6, 88, 0));
-    CHECK(is(add(s, 3, 2, out, 88, entry, 7).refusal, 6, 8, 0));
-    CHECK(same_state(add(s, 3, 2, out, 87, entry, 8).state, s) && add(s, 3, 2, out, 87, entry, 8).bytes == 0);
+    CHECK(gives_back(add(bad, 3, 2, out, 88, entry, 8), bad, 3, 0, 0));
+    CHECK(gives_back(add(s, 99, 2, out, 88, entry, 8), s, 4, 99, 0));
+    CHECK(gives_back(add(s, 31, 2, out, 88, entry, 8), s, 9, 31, 0));
+    CHECK(gives_back(add(s, 5, 2, out, 88, entry, 8), s, 5, 3, 5));
+    CHECK(gives_back(add(s, 3, 1, out, 88, entry, 8), s, 10, 0, 0));
+    CHECK(gives_back(add(full, 3, 2, out, 88, entry, 8), full, 7, 0, 0));
+    CHECK(gives_back(add(s, 3, 2, out, 87, entry, 8), s, 6, 88, 0));
+    CHECK(gives_back(add(s, 3, 2, out, 88, entry, 7), s, 6, 8, 0));
     CHECK(memcmp(out, untouched, 88) == 0 && memcmp(entry, untouched, 8) == 0);
     f = mbenaruul_finish(bad);
     CHECK(is(f.refusal, 3, 0, 0) && memcmp(f.shp, untouched, 88) == 0 && memcmp(f.shx, untouched, 88) == 0);
@@ -219,6 +223,113 @@ static void empty_place(mbenaruul_state s, const uint8_t *shp, const uint8_t *sh
     CHECK(is(mbenaruul_write_shape(&s, 0, box, NULL, 0, NULL, 0, NULL, 0, NULL, 0, NULL, 0, NULL, 0, SIZE_MAX, NULL, 0).refusal, 6, SIZE_MAX, 0));
 }
 
+/* The points so far, of a file of this kind: each record raises them by its points, by value and lent, and a Null record by none; a refused call and
+ * finishing halfway keep them. At the end they are those of the pair. */
+static void points_so_far(int32_t code, size_t parts, size_t n, size_t z_n, size_t m_n) {
+    static const uint32_t c[] = {4, 5};
+    static const double o[9];
+    static uint8_t shp[1000], shx[132];
+    size_t end = 100, k;
+    mbenaruul_state given = mbenaruul_new(), lent = given;
+    mbenaruul_finished f;
+    mbenaruul_pair_checked p;
+
+    for (k = 0; k < 2; k++) {
+        uint8_t *entry = shx + 100 + 16 * k;
+        uint32_t before = given.points, after = before + (uint32_t)n;
+        mbenaruul_added a = mbenaruul_add_record(given, code, box, c, parts, o, n, o, n - 1, o, z_n, o, m_n, shp, 1000, end, entry, 8);
+        mbenaruul_written w = mbenaruul_write_shape(&lent, code, box, c, parts, o, n, o, n, o, z_n, o, m_n, shp, end, end, entry, 8);
+
+        CHECK(is(a.refusal, 10, 0, 0) && a.state.points == before && w.refusal.number == 6 && lent.points == before);
+        a = mbenaruul_add_record(given, code, box, c, parts, o, n, o, n, o, z_n, o, m_n, shp, 1000, end, entry, 8);
+        w = mbenaruul_write_shape(&lent, code, box, c, parts, o, n, o, n, o, z_n, o, m_n, shp, 1000, end, entry, 8);
+        CHECK(is(a.refusal, 0, 0, 0) && a.state.points == after && is(w.refusal, 0, 0, 0) && lent.points == after);
+        end += w.bytes;
+        a = mbenaruul_add_record(a.state, 0, box, NULL, 0, NULL, 0, NULL, 0, NULL, 0, NULL, 0, shp, 1000, end, entry + 8, 8);
+        w = mbenaruul_write_shape(&lent, 0, box, NULL, 0, NULL, 0, NULL, 0, NULL, 0, NULL, 0, shp, 1000, end, entry + 8, 8);
+        CHECK(is(a.refusal, 0, 0, 0) && a.state.points == after && is(w.refusal, 0, 0, 0) && lent.points == after);
+        end += w.bytes;
+        given = a.state;
+        f = mbenaruul_finish(given);
+        CHECK(is(f.refusal, 0, 0, 0) && given.points == after && same_state(given, lent));
+    }
+    memcpy(shp, f.shp, 100);
+    memcpy(shx, f.shx, 100);
+    p = mbenaruul_check_pair(shp, end, shx, 132);
+    CHECK(is(p.refusal, 0, 0, 0) && p.totals.records == 4 && p.totals.points == lent.points && lent.points == 2 * n);
+}
+
+static void points_of_every_kind(void) {
+    int32_t flags; /* 0: no more than x and y, 1: z and m, 2: m */
+
+    for (flags = 0; flags < 3; flags++) {
+        size_t z_too = flags == 1, m_too = flags > 0;
+
+        points_so_far(10 * flags + 1, 0, 1, z_too, m_too);
+        points_so_far(10 * flags + 3, 2, 9, 9 * z_too, 9 * m_too);
+        points_so_far(10 * flags + 5, 2, 9, 9 * z_too, 9 * m_too);
+        points_so_far(10 * flags + 8, 0, 7, 7 * z_too, 7 * m_too);
+    }
+}
+
+/* A state of polylines with so many points is taken by all three calls, and each record adds its own two. */
+static void taken_with(mbenaruul_state s, uint32_t points) {
+    uint8_t out[88], entry[8];
+    mbenaruul_finished before = mbenaruul_finish(s), f;
+    mbenaruul_state lent;
+    mbenaruul_added a;
+    mbenaruul_written w;
+
+    s.points = points;
+    lent = s;
+    a = add(s, 3, 2, out, 88, entry, 8);
+    w = mbenaruul_write_shape(&lent, 3, box, counts, 1, x, 2, y, 2, NULL, 0, NULL, 0, out, 88, 0, entry, 8);
+    f = mbenaruul_finish(s);
+    CHECK(is(a.refusal, 0, 0, 0) && a.state.points == points + 2 && is(w.refusal, 0, 0, 0) && same_state(lent, a.state));
+    CHECK(is(f.refusal, 0, 0, 0) && memcmp(f.shp, before.shp, 100) == 0 && memcmp(f.shx, before.shx, 100) == 0); /* no header has them */
+}
+
+/* With so many points it is refused with 3 by all three, before all else that could be said, and comes back as it was. */
+static void refused_with(mbenaruul_state s, uint32_t points) {
+    static const uint8_t untouched[100];
+    static const int32_t codes[] = {3, 0, 2, 31, 5}; /* its own kind, a Null record with tables, unknown, not taken, another kind */
+    uint8_t out[88] = {0}, entry[8] = {0};
+    mbenaruul_state lent;
+    mbenaruul_finished f;
+    size_t k;
+
+    s.points = points;
+    lent = s;
+    for (k = 0; k < sizeof codes / sizeof *codes; k++) {
+        mbenaruul_written w = mbenaruul_write_shape(&lent, codes[k], box, counts, 1, x, 2, y, 2, NULL, 0, NULL, 0, out, 88, 0, entry, 8);
+
+        CHECK(gives_back(add(s, codes[k], 2, out, 88, entry, 8), s, 3, 0, 0));
+        CHECK(gives_back(add(s, codes[k], 1, out, 0, entry, 0), s, 3, 0, 0)); /* a y too few, and no room */
+        CHECK(is(w.refusal, 3, 0, 0) && w.bytes == 0 && same_state(lent, s));
+    }
+    CHECK(memcmp(out, untouched, sizeof out) == 0 && memcmp(entry, untouched, sizeof entry) == 0);
+    f = mbenaruul_finish(s);
+    CHECK(is(f.refusal, 3, 0, 0) && memcmp(f.shp, untouched, 100) == 0 && memcmp(f.shx, untouched, 100) == 0);
+}
+
+/* The points of a state of polylines may reach its words, and do not exceed them; those of a fresh one too. */
+static void points_and_words(mbenaruul_state s) {
+    mbenaruul_state last = s, fresh = mbenaruul_new();
+
+    last.words = INT32_MAX - 44; /* with which one more polyline of two points just fits */
+    taken_with(s, 0);
+    taken_with(s, 94);
+    taken_with(last, INT32_MAX - 44);
+    taken_with(fresh, 50);
+    refused_with(s, 95);
+    refused_with(s, (uint32_t)INT32_MAX + 1);
+    refused_with(s, UINT32_MAX);
+    refused_with(last, INT32_MAX - 43);
+    refused_with(last, UINT32_MAX);
+    refused_with(fresh, 51);
+    refused_with(fresh, UINT32_MAX);
+}
+
 /* The state by value and the state lent come to the same. */
 static void write_both_ways(void) {
     uint8_t a_out[400], b_out[400], a_entry[8], b_entry[8];
@@ -234,7 +345,7 @@ static void write_both_ways(void) {
         a = mbenaruul_add_record(given, 13, box, counts, 1, x, 2, y, 2, z, 2, m, 2, a_out, sizeof a_out, start, a_entry, 8);
         b = mbenaruul_write_shape(&lent, 13, box, counts, 1, x, 2, y, 2, z, 2, m, 2, b_out, sizeof b_out, start, b_entry, 8);
         CHECK(is(a.refusal, 0, 0, 0) && is(b.refusal, 0, 0, 0) && a.bytes == 152 && b.bytes == 152);
-        CHECK(same_state(a.state, lent) && lent.number == k + 1);
+        CHECK(same_state(a.state, lent) && lent.number == k + 1 && lent.points == 2 * (uint32_t)k);
         CHECK(memcmp(a_out, b_out, sizeof a_out) == 0 && memcmp(a_entry, b_entry, 8) == 0);
         given = a.state;
         start += b.bytes;
@@ -339,7 +450,8 @@ static void multipoint(int32_t code, size_t z_n, size_t m_n, int32_t words) {
         expected.mmin = expected.mmax = 0;
     CHECK(is(a.refusal, 0, 0, 0) && a.bytes == 8 + size && is(w.refusal, 0, 0, 0) && w.bytes == 8 + size && same_state(a.state, lent));
     CHECK(memcmp(shp + 100, again + 100, all - 100) == 0 && memcmp(shx + 100, entry, 8) == 0);
-    CHECK(a.state.words == 54 + words && a.state.number == 2 && a.state.kind == code && memcmp(&a.state.bbox, &expected, sizeof expected) == 0);
+    CHECK(a.state.words == 54 + words && a.state.number == 2 && a.state.kind == code && a.state.points == 2);
+    CHECK(memcmp(&a.state.bbox, &expected, sizeof expected) == 0);
     CHECK(shp[108] == code && shp[144] == 2 && shp[145] == 0 && shp[146] == 0 && shp[147] == 0);
     memcpy(shp, f.shp, 100);
     memcpy(shx, f.shx, 100);
@@ -380,7 +492,7 @@ static void multipoint(int32_t code, size_t z_n, size_t m_n, int32_t words) {
     f = mbenaruul_finish(a.state);
     memcpy(shp, f.shp, 100);
     memcpy(shx, f.shx, 100);
-    CHECK(is(a.refusal, 0, 0, 0) && a.bytes == 8 + size - 32 - 8 * z_n - 8 * m_n);
+    CHECK(is(a.refusal, 0, 0, 0) && a.bytes == 8 + size - 32 - 8 * z_n - 8 * m_n && a.state.points == 0);
     r = mbenaruul_read_record(shp + 108, a.bytes - 8, (int64_t)a.bytes - 8, NULL, 0, NULL, 0, NULL, 0, NULL, 0, NULL, 0);
     CHECK(is(r.refusal, 0, 0, 0) && r.form == 3 && r.body.parts == 0 && r.body.points == 0);
     CHECK(is(mbenaruul_check_pair(shp, 100 + a.bytes, shx, 108).refusal, 8, 14, 1));
@@ -482,13 +594,15 @@ int main(void) {
     static uint8_t shp[188], shx[108];
     mbenaruul_state s = mbenaruul_new();
 
-    CHECK(s.words == 50 && s.number == 1 && s.kind == 0 && s.bbox.xmin == 0 && s.bbox.mmax == 0);
+    CHECK(s.words == 50 && s.number == 1 && s.kind == 0 && s.points == 0 && s.bbox.xmin == 0 && s.bbox.mmax == 0);
     s = one_run(shp, shx);
     pairs(shp, shx);
     heads(shp, shx);
     records(shp + 108);
     refusals_of_adding(s);
     empty_place(s, shp, shx);
+    points_of_every_kind();
+    points_and_words(s);
     write_both_ways();
     every_field();
     other_lengths(13, 1, 144);

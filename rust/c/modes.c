@@ -111,7 +111,7 @@ static void boxes(void) {
     CHECK(has_bits(s.bbox.xmin, LEAST) && has_bits(s.bbox.xmax, LEAST));
     CHECK(has_bits(s.bbox.ymin, MINUS_LEAST) && has_bits(s.bbox.ymax, MINUS_LEAST));
     of = "and an empty place";
-    CHECK(after.number == 3 && after.kind == 1 && memcmp(&after.bbox, &s.bbox, sizeof s.bbox) == 0);
+    CHECK(after.number == 3 && after.kind == 1 && after.points == 1 && memcmp(&after.bbox, &s.bbox, sizeof s.bbox) == 0);
     of = "and (0, 0)";
     s = with_point(s, ZERO, ZERO);
     CHECK(has_bits(s.bbox.xmin, ZERO) && has_bits(s.bbox.xmax, LEAST));

@@ -1,5 +1,5 @@
 /* Writing from C: a plan of three shelf runs is put together, record by record, and written to the .shp and the .shx that are named; then it is read
- * back through its index.
+ * back through its index. After each run a line says how many points are written so far.
  *
  *     cc -I include rust/c/write.c target/staticlib/libexport.a -o write
  *     ./write plan.shp plan.shx
@@ -12,7 +12,7 @@
 
 #include "mbenaruul.h"
 
-enum { POLYLINE = 3, HEADER = 100, RECORD_HEADER = 8, ENTRY = 8 };
+enum { POLYLINE = 3, HEADER = 100, RECORD_HEADER = 8, ENTRY = 8, POINTS = 7 /* of all runs */ };
 
 /* A file that grows. */
 typedef struct { uint8_t *bytes; size_t n; } file;
@@ -63,6 +63,7 @@ static void add_run(mbenaruul_state *state, file *shp, file *shx, const double *
                               shx->bytes + shx->n - ENTRY, ENTRY);
     if (w.refusal.number != 0)
         stop("the run is refused");
+    printf("%u of %d points\n", (unsigned)state->points, POINTS); /* a progress bar goes by this */
 }
 
 static void put_together(file *shp, file *shx) {

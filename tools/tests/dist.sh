@@ -39,7 +39,7 @@ c_example() {
     without_rt "${cc[@]}" -I include "rust/c/$1.c" lib/libexport.a -o "$1"
 }
 told 'dist: the C example that writes builds' c_example write
-told 'dist: it writes' says 0 'run 1: (0, 0) (9, 0)' first_line "${run[@]}" ./write written.shp written.shx
+told 'dist: it writes' says 0 '2 of 7 points' first_line "${run[@]}" ./write written.shp written.shx
 told 'dist: the C example builds' c_example example
 told 'dist: the C example runs' says 0 'yes records=3 parts=3 points=7' "${run[@]}" ./example written.shp written.shx
 told 'dist: and says no' says 1 'no rule=P11 record=1' "${run[@]}" ./example crates/pairs/data/exchanged.shp crates/pairs/data/exchanged.shx

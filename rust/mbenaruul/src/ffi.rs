@@ -81,6 +81,8 @@ pub struct State {
     pub words: i32,
     pub number: i32,
     pub kind: i32,
+    /// The points of all records so far.
+    pub points: u32,
     pub bbox: BBoxZ,
 }
 

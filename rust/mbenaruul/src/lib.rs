@@ -10,6 +10,7 @@
 //! | say why they are not | [`Error::why`], [`Verdict::why`]: a [`Reason`], with its numbers and a text |
 //! | read the records of a pair | [`Plan::check`], then [`Plan::record`] or [`Plan::records`] |
 //! | write a pair | [`Writer`], with [`Tables::with_true_bbox`] for shapes without a box |
+//! | show how far the writing has come | [`Writer::points`], with a line for a progress bar |
 //! | write what was read | [`Writer::add_record`], or [`Record::tables`] to change something first |
 //! | read a header, an index entry or a record by itself | [`read_header`], [`read_record_header`], [`read_index_entry`], [`read_record`] |
 //! | go over points as pairs | [`Shape::points`], [`Multipoint::points`]; [`points`] of any x and y |

@@ -90,6 +90,8 @@ fn range_of<'a>(values: impl Iterator<Item = &'a f64> + Clone) -> Option<Range> 
 /// and a box that is not the true one are written as given. Of the pair that comes out,
 /// [`check_pair`](crate::check_pair) judges all of these but the boxes.
 ///
+/// For a progress bar, [`Writer::points`] says how many points are written so far.
+///
 /// A plan with an empty place, where a shelf run was taken down. The runs behind it keep their
 /// numbers:
 ///
@@ -166,6 +168,49 @@ impl Writer {
         self.add(&record.tables())
     }
 
+    /// The points of all records so far: a point counts 1, a Null 0, a multipoint and a shape with
+    /// parts as many as they have. A refused add leaves it as it was. At the end it is what
+    /// [`Totals::points`](crate::Totals::points) says of the pair.
+    ///
+    /// A line after each shelf run, for a progress bar:
+    ///
+    /// ```
+    /// use mbenaruul::{kind, Tables, Writer};
+    ///
+    /// # fn main() -> Result<(), mbenaruul::Error> {
+    /// let rows = [0.0, 4.0, 8.0];
+    /// let all = 2 * rows.len(); // each run has two points
+    /// let mut writer = Writer::new();
+    /// let mut lines = Vec::new();
+    /// for y in rows {
+    ///     let run = Tables {
+    ///         kind: kind::POLYLINE,
+    ///         counts: &[2],
+    ///         x: &[0.0, 9.0],
+    ///         y: &[y, y],
+    ///         ..Tables::default()
+    ///     };
+    ///     writer.add(&run.with_true_bbox())?;
+    ///     lines.push(format!("{} of {all} points", writer.points()));
+    /// }
+    /// assert_eq!(lines, ["2 of 6 points", "4 of 6 points", "6 of 6 points"]);
+    ///
+    /// // a point among polylines is refused, and not counted
+    /// let point = Tables {
+    ///     kind: kind::POINT,
+    ///     x: &[5.0],
+    ///     y: &[5.0],
+    ///     ..Tables::default()
+    /// };
+    /// assert!(writer.add(&point).is_err());
+    /// assert_eq!(writer.points(), 6);
+    /// # Ok(())
+    /// # }
+    /// ```
+    pub fn points(&self) -> usize {
+        self.state.points as usize
+    }
+
     /// The .shp and the .shx, whole. A writer of this crate is never refused.
     pub fn finish(mut self) -> Result<(Vec<u8>, Vec<u8>), Error> {
         let finished = ffi::finish(self.state);
@@ -227,6 +272,7 @@ mod tests {
         assert_eq!(fits.state.words, i32::MAX);
         let mut long = writer_at(i32::MAX - 43);
         assert_eq!(long.add(&SEGMENT), Err(Error::Long));
+        assert_eq!((fits.points(), long.points()), (4, 2));
     }
 
     #[test]
@@ -309,6 +355,98 @@ mod tests {
         let added = ffi::add_record(set, &NULL, &mut out, 5, &mut entry);
         assert_eq!(added.refusal.into_result(), Ok(()));
         assert_eq!((added.bytes, out[4], out[17], entry[8]), (12, 9, 9, 9));
+    }
+
+    /// The state of a file of polylines with so many words and points.
+    fn state_of(words: i32, points: u32) -> ffi::State {
+        ffi::State {
+            words,
+            points,
+            ..writer_at(94).state
+        }
+    }
+
+    /// A fresh state, but for its points.
+    fn fresh_with(points: u32) -> ffi::State {
+        ffi::State {
+            points,
+            ..ffi::new()
+        }
+    }
+
+    #[test]
+    fn a_total_of_points_may_reach_the_words() {
+        let most = (i32::MAX - 44) as u32; // words with which one more segment just fits
+        for state in [
+            state_of(94, 0),
+            state_of(94, 93),
+            state_of(94, 94),
+            state_of(i32::MAX - 44, most - 1),
+            state_of(i32::MAX - 44, most),
+            fresh_with(1),
+            fresh_with(50),
+        ] {
+            let (mut out, mut entry) = ([9; 88], [9; 8]);
+            let added = ffi::add_record(state, &SEGMENT, &mut out, 0, &mut entry);
+            assert_eq!(added.refusal.into_result(), Ok(()), "{state:?}");
+            assert_eq!(added.state.points, state.points + 2);
+            let finished = ffi::finish(state);
+            assert_eq!(finished.refusal.into_result(), Ok(()), "{state:?}");
+            // no header has it
+            let other = ffi::finish(ffi::State { points: 2, ..state });
+            assert_eq!((finished.shp, finished.shx), (other.shp, other.shx));
+        }
+        let last = state_of(i32::MAX, i32::MAX as u32);
+        assert_eq!(ffi::finish(last).refusal.into_result(), Ok(()));
+        assert_eq!(said(last, &SEGMENT, 100, 8), Error::Long);
+    }
+
+    #[test]
+    fn a_total_of_points_over_the_words_is_3() {
+        for words in [94, 95, i32::MAX - 44, i32::MAX] {
+            let limit = words as u32;
+            for points in [limit + 1, limit + 2, i32::MAX as u32 + 1, u32::MAX] {
+                assert_no_state(state_of(words, points));
+            }
+        }
+        for points in [51, 52, i32::MAX as u32, u32::MAX] {
+            assert_no_state(fresh_with(points));
+        }
+    }
+
+    /// Adding and finishing refuse the state with 3, before all else that could be said.
+    fn assert_no_state(state: ffi::State) {
+        let of = |kind| Tables { kind, ..SEGMENT };
+        let uneven = Tables { y: &[], ..SEGMENT };
+        for tables in [SEGMENT, NULL, of(2), of(31), of(kind::POLYGON), uneven] {
+            for (room, entry) in [(0, 0), (100, 8)] {
+                let refused = said(state, &tables, room, entry);
+                assert_eq!(refused, Error::Size { at: 0 }, "{state:?}, {tables:?}");
+            }
+        }
+        let finished = ffi::finish(state);
+        let refused = finished.refusal.into_result();
+        assert_eq!(refused, Err(Error::Size { at: 0 }), "{state:?}");
+        assert_eq!((finished.shp, finished.shx), ([0; 100], [0; 100]));
+    }
+
+    #[test]
+    fn a_refused_call_returns_the_total_that_it_was_given() {
+        let (set, full) = (state_of(94, 7), state_of(i32::MAX - 43, 7));
+        let of = |kind| Tables { kind, ..SEGMENT };
+        // `said` holds the state that comes back to the one that was given
+        assert_eq!(said(set, &of(2), 100, 8), Error::Unknown(2));
+        assert_eq!(said(set, &of(31), 100, 8), Error::NotTaken(31));
+        let (wanted, found) = (kind::POLYLINE, kind::POLYGON);
+        let mismatch = Error::Mismatch { wanted, found };
+        assert_eq!(said(set, &of(found), 100, 8), mismatch);
+        let uneven = Tables { y: &[], ..SEGMENT };
+        assert_eq!(said(set, &uneven, 100, 8), Error::Tables);
+        assert_eq!(said(full, &SEGMENT, 100, 8), Error::Long);
+        let room = |first| Error::Room { first, second: 0 };
+        assert_eq!(said(set, &SEGMENT, 92, 8), room(93));
+        assert_eq!(said(set, &SEGMENT, 93, 7), room(8));
+        assert_eq!(said(fresh_with(7), &NULL, 100, 8), Error::NotTaken(0));
     }
 
     #[test]

@@ -73,7 +73,7 @@ lies!(RecordRead, 152: refusal 0..24, code 24..28, form 28..32, has_m 32..36,
     point 40..72, body 72..152);
 lies!(Totals, 24: records 0..8, parts 8..16, points 16..24);
 lies!(PairChecked, 48: refusal 0..24, totals 24..48);
-lies!(State, 80: words 0..4, number 4..8, kind 8..12, bbox 16..80);
+lies!(State, 80: words 0..4, number 4..8, kind 8..12, points 12..16, bbox 16..80);
 lies!(Added, 112: refusal 0..24, bytes 24..32, state 32..112);
 lies!(Finished, 224: refusal 0..24, shp 24..124, shx 124..224);
 lies!(Told, 32: refusal 0..24, value 24..32);
