@@ -1,4 +1,6 @@
 // The header's box: how it grows with each record, and what it is in the end.
+#![tactic(auto)]
+
 ghost use Rattle.std.specs.Prelude.{◌≡◌, cond, get_or};
 ghost use Rattle.boxes.specs.Boxes.{least, greatest, grown, start_box, zero_double, flat, point_box, untouched, settled};
 

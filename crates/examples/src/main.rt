@@ -1,4 +1,6 @@
 // Document 01's examples, run: what each call answers, a line each, as the refusal's number and its values, or 0 and what was read.
+#![tactic(auto)]
+
 use format::kinds::Found;
 use format::lengths::{Content, Counted, Formula};
 use format::units::{Bytes, InWords, Words};

@@ -12,21 +12,21 @@ use header::entries::{RecordHeader, RecordHeaderAnswer, ShapeIndex, ShapeIndexAn
 use header::{Header, HeaderAnswer};
 
 #[repr(C)]
-#[derive(Drop)]
+#[derive(Clone, Copy)]
 pub struct HeaderRead {
     pub refusal: Refusal,
     pub header: Header,
 }
 
 #[repr(C)]
-#[derive(Drop)]
+#[derive(Clone, Copy)]
 pub struct RecordHeaderRead {
     pub refusal: Refusal,
     pub header: RecordHeader,
 }
 
 #[repr(C)]
-#[derive(Drop)]
+#[derive(Clone, Copy)]
 pub struct IndexEntryRead {
     pub refusal: Refusal,
     pub entry: ShapeIndex,

@@ -8,7 +8,7 @@ use crate::refusals::Refusal;
 use pair::Verdict;
 
 #[repr(C)]
-#[derive(Drop)]
+#[derive(Clone, Copy)]
 pub struct Totals {
     pub records: usize,
     pub parts: usize,
@@ -17,7 +17,7 @@ pub struct Totals {
 
 // The refusal's number 0 is the checker's yes.
 #[repr(C)]
-#[derive(Drop)]
+#[derive(Clone, Copy)]
 pub struct PairChecked {
     pub refusal: Refusal,
     pub totals: Totals,

@@ -12,7 +12,7 @@ use record::{Point, RecordAnswer, Wanted};
 
 // The form is 0 for Null, 1 for a point, 2 for a shape with parts and 3 for a multipoint; has_m is 1 where one of the last two has m.
 #[repr(C)]
-#[derive(Drop)]
+#[derive(Clone, Copy)]
 pub struct RecordRead {
     pub refusal: Refusal,
     pub code: i32,

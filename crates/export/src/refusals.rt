@@ -23,7 +23,7 @@ pub(crate) const NOT_TAKEN: u32 = 9;
 pub(crate) const TABLES: u32 = 10;
 
 #[repr(C)]
-#[derive(Drop)]
+#[derive(Clone, Copy)]
 pub struct Refusal {
     pub number: u32,
     pub first: u64,

@@ -10,7 +10,7 @@ use rings::{CloseAnswer, ClosedAnswer, RingAnswer};
 
 // What is told of a run, as a number.
 #[repr(C)]
-#[derive(Drop)]
+#[derive(Clone, Copy)]
 pub struct Told {
     pub refusal: Refusal,
     pub value: usize,

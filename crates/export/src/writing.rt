@@ -13,7 +13,7 @@ use writer::{AddAnswer, FinishAnswer, State};
 
 // How many bytes the record took, and the state for the next one; a refusal returns the state that it was given.
 #[repr(C)]
-#[derive(Drop)]
+#[derive(Clone, Copy)]
 pub struct Added {
     pub refusal: Refusal,
     pub bytes: usize,
@@ -22,7 +22,7 @@ pub struct Added {
 
 // How many bytes the record took, where the state is lent.
 #[repr(C)]
-#[derive(Drop)]
+#[derive(Clone, Copy)]
 pub struct Written {
     pub refusal: Refusal,
     pub bytes: usize,
@@ -30,7 +30,7 @@ pub struct Written {
 
 // Both headers; zeros, where there was no writer state.
 #[repr(C)]
-#[derive(Drop)]
+#[derive(Clone, Copy)]
 pub struct Finished {
     pub refusal: Refusal,
     pub shp: [u8; 100],

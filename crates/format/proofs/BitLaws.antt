@@ -2,7 +2,7 @@
 -- Two that are no NaN compare as their signs and the numbers behind the signs do.
 use mathlib.Core.Path.{◌≡◌, refl, sym, ap, ap₂, ◌∙◌}
 use mathlib.Core.Logic.{◌⊎◌, inl, inr}
-use mathlib.Core.Bool.{Bool, true, false, not, ◌&&◌, ◌||◌, beq, or-false, or_true, and-false}
+use mathlib.Core.Bool.{Bool, true, false, not, ◌&&◌, ◌||◌, beq, or-false, or-true, and-false}
 use Prim.Native.Nat.{ℕ, zero, suc, ◌+◌, ◌-◌, ◌*◌, ◌/◌, ◌%◌, ◌^◌, ◌≤◌, ◌<◌}
 use native.Mathlib.Nat.{le_of_eq, le_of_lt, le_trans, le_antisymm, le_of_suc-le-suc, lt_of_lt_of_le, eq-or-lt_of_le, le-add_right, add-mul, mul-add, mul-le-mul_left, mul-le-mul_right, mul-lt-mul_of_pos_right, mul_assoc, mul_right_comm, mul-pos, zero-mul, zero-div, zero-mod, mod-lt, div-lt_iff_lt-mul, div-add-mod', mul-div_cancel, mul-mod_left, mod-mod_of_dvd, dvd-mul_right, two-pow-succ}
 use native.Mathlib.Omega.{arith}
@@ -213,7 +213,7 @@ module _ (f : Format) where
 
 module _ (a b : ℕ) where
   pub same_zeros : a % 2 ^ 63 ≡ 0 → same_number a b ≡ eqb (b % 2 ^ 63) 0
-  same_zeros z = (bits_compare binary64 a b).1 ∙ rw (z, or_true) (by (b % 2 ^ 63))
+  same_zeros z = (bits_compare binary64 a b).1 ∙ rw (z, or-true) (by (b % 2 ^ 63))
     where
       by : (q : ℕ) → leb q 0x7ff0_0000_0000_0000 && (eqb 0 q && true) ≡ eqb q 0
       by zero = refl

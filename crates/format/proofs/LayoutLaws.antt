@@ -6,7 +6,7 @@ use native.Mathlib.Nat.{not-suc-le-zero, le_of_suc-le-suc, zero-add, add-zero, a
 use native.Mathlib.Numerals.{add-one}
 use native.Mathlib.Omega.{arith}
 use lib.ListN.{length, get_or, take, drop, set, length-append, drop_of_length-le}
-use lib.Seq.{drop-cons, sets, sets_eq, set_comm, take_at, drop_at, length-take-le, drop-append-add, drop-drop, take-add, take-take, take-nil}
+use lib.Seq.{drop-cons, sets, sets-eq, set_comm, take_at, drop_at, length-take-le, drop-append-add, drop-drop, take-add, take-take, take-nil}
 use Rattle.format.specs.Bytes.{field}
 use Rattle.format.specs.Shapes.{sum}
 
@@ -59,12 +59,12 @@ module _ (n : ℕ) (vs l : List ℕ) (i : ℕ) (e : length vs ≡ n) (h : i + n 
   pub field-sets : field n i (sets l i vs) ≡ vs
   unfolding field
   field-sets =
-      ap (λ (s : List ℕ). take n (drop i s)) (sets_eq vs l i (omega arith) ∙ append_assoc (take i l) vs behind)
+      ap (λ (s : List ℕ). take n (drop i s)) (sets-eq vs l i (omega arith) ∙ append_assoc (take i l) vs behind)
       ∙ (ap (take n) (drop_at (take i l) (vs ++ behind) i front_length) ∙ take_at vs behind n e)
 
   pub take-sets : take (i + n) (sets l i vs) ≡ take i l ++ vs
   take-sets =
-      ap (take (i + n)) (sets_eq vs l i (omega arith))
+      ap (take (i + n)) (sets-eq vs l i (omega arith))
       ∙ take_at (take i l ++ vs) behind (i + n) (length-append (take i l) vs ∙ ap₂ ◌+◌ front_length e)
 
 -- a whole list stored over one as long
@@ -72,7 +72,7 @@ pub sets_all {ℓ} : {A : Type ℓ} (vs l : List A) → length vs ≡ length l �
 sets_all {A = A} vs l e =
     let h : 0 + length vs ≤ length l = omega arith in
     let z : length l ≤ 0 + length vs = omega arith in
-    sets_eq vs l 0 h ∙ ap (λ (t : List A). vs ++ t) (drop_of_length-le l z) ∙ append-nil vs
+    sets-eq vs l 0 h ∙ ap (λ (t : List A). vs ++ t) (drop_of_length-le l z) ∙ append-nil vs
 
 -- the last one first
 pub sets_snoc : (vs l : List ℕ) (i a : ℕ) → sets l i (vs ++ a ∷ []) ≡ sets (set l (i + length vs) a) i vs

@@ -2,7 +2,7 @@
 ghost use Rattle.std.specs.Prelude.{◌≡◌, ◌≤◌};
 ghost use Rattle.format.specs.Kinds.{kinds, row_of, row_at, said_found, kind_of};
 
-#[derive(Drop)]
+#[derive(Clone, Copy)]
 pub struct Kind {
     pub code: u32,
     pub z: bool,
@@ -11,7 +11,7 @@ pub struct Kind {
 }
 
 // The kind of a code; or the code, where there is none.
-#[derive(Drop)]
+#[derive(Clone, Copy)]
 pub enum Found {
     Is(Kind),
     Unknown(i32),

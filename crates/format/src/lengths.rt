@@ -7,21 +7,21 @@ use crate::kinds::{Found, Kind, find_kind};
 use crate::units::Words;
 
 // A content's words: the fixed ones, 2 for each part, and so many for each point.
-#[derive(Drop)]
+#[derive(Clone, Copy)]
 pub struct Formula {
     pub fixed: u16,
     pub point: u16,
 }
 
 // The formulas of a kind, without m and with m.
-#[derive(Drop)]
+#[derive(Clone, Copy)]
 pub struct Lengths {
     pub without: Formula,
     pub with: Formula,
 }
 
 // The formulas of a code's kind; or its code, where the kind is not taken, or where there is none.
-#[derive(Drop)]
+#[derive(Clone, Copy)]
 pub enum Content {
     Taken(Lengths),
     NotTaken(i32),
@@ -29,7 +29,7 @@ pub enum Content {
 }
 
 // What a formula comes to; long, where an i32 does not hold it.
-#[derive(Drop)]
+#[derive(Clone, Copy)]
 pub enum Counted {
     Is(Words),
     Long,

@@ -4,15 +4,15 @@ ghost use Rattle.format.specs.Units.{in_bytes, said_words, in_words};
 
 // A length in 16-bit words.
 #[repr(C)]
-#[derive(Drop)]
+#[derive(Clone, Copy)]
 pub struct Words(pub i32);
 
 // A length in bytes.
-#[derive(Drop)]
+#[derive(Clone, Copy)]
 pub struct Bytes(pub i64);
 
 // A length in bytes as one in words: not, where it is odd or an i32 does not hold its half.
-#[derive(Drop)]
+#[derive(Clone, Copy)]
 pub enum InWords {
     Is(Words),
     Not,

@@ -5,7 +5,7 @@ ghost use Rattle.format.specs.Numbers.{f64s_le};
 ghost use Rattle.header.specs.Box.{box_at, box_list};
 
 #[repr(C)]
-#[derive(Drop)]
+#[derive(Clone, Copy)]
 pub struct BBoxZ {
     pub xmin: f64,
     pub ymin: f64,

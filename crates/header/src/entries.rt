@@ -7,7 +7,7 @@ use format::units::Words;
 
 // In front of each record: its number from 1, and how long its content is.
 #[repr(C)]
-#[derive(Drop)]
+#[derive(Clone, Copy)]
 pub struct RecordHeader {
     pub record_number: i32,
     pub content_length: Words,
@@ -15,19 +15,19 @@ pub struct RecordHeader {
 
 // In the .shx: where the record starts, and how long its content is.
 #[repr(C)]
-#[derive(Drop)]
+#[derive(Clone, Copy)]
 pub struct ShapeIndex {
     pub offset: Words,
     pub content_length: Words,
 }
 
-#[derive(Drop)]
+#[derive(Clone, Copy)]
 pub enum RecordHeaderAnswer {
     Whole(RecordHeader),
     Short(usize, usize),
 }
 
-#[derive(Drop)]
+#[derive(Clone, Copy)]
 pub enum ShapeIndexAnswer {
     Whole(ShapeIndex),
     Short(usize, usize),

@@ -1,4 +1,6 @@
 // The header of a .shp or .shx file: 100 bytes, read and written.
+#![tactic(auto)]
+
 ghost use Rattle.std.specs.Prelude.{◌≡◌};
 ghost use Rattle.header.specs.Reading.{said, header_of};
 ghost use Rattle.header.specs.Writing.{bytes_of, WritesHeader};
@@ -11,7 +13,7 @@ pub mod bbox;
 pub mod entries;
 
 #[repr(C)]
-#[derive(Drop)]
+#[derive(Clone, Copy)]
 pub struct Header {
     pub file_length: Words,
     pub version: i32,
@@ -19,7 +21,7 @@ pub struct Header {
     pub bbox: BBoxZ,
 }
 
-#[derive(Drop)]
+#[derive(Clone, Copy)]
 pub enum HeaderAnswer {
     Whole(Header),
     Short(usize, usize),
@@ -74,14 +76,14 @@ pub fn read_header(s: &[u8]) -> HeaderAnswer
 }
 
 // Whether a header was written.
-#[derive(Drop)]
+#[derive(Clone, Copy)]
 pub enum Wrote {
     Whole,
     Unknown(i32),
 }
 
 // The header's bytes; zeros, where none was written.
-#[derive(Drop)]
+#[derive(Clone, Copy)]
 pub struct HeaderBytes {
     pub answer: Wrote,
     pub bytes: [u8; 100],

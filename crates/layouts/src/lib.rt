@@ -1,4 +1,6 @@
 // The bytes of bodies of several points; with parts also one function for each layout: x and y; with m; with z and m.
+#![tactic(auto)]
+
 ghost use Rattle.std.specs.Prelude.{true, false, []};
 ghost use Rattle.layouts.specs.Answers.{WritesBody};
 
@@ -8,7 +10,7 @@ mod judge;
 mod puts;
 
 // How many bytes were written; that the tables disagree, that a count leaves i32, or how many bytes are needed.
-#[derive(Drop)]
+#[derive(Clone, Copy)]
 pub enum LayoutAnswer {
     Written(usize),
     Tables,

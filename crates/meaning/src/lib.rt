@@ -1,1 +1,2 @@
 // What the rules mean, proved: proofs/. There is no code here.
+#![tactic(auto)]

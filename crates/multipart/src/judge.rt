@@ -10,7 +10,7 @@ use crate::{PartAnswer, part_count};
 
 // What a walk over fields finds: a number, where all is well; or the place of the field that is cut, with how many of its bytes are present,
 // or of the one that is wrong.
-#[derive(Drop)]
+#[derive(Clone, Copy)]
 pub enum Walk {
     On(usize),
     Short(usize, usize),

@@ -1,4 +1,6 @@
 // Bodies of several points, in parts or as a multipoint: part arithmetic and the body reader.
+#![tactic(auto)]
+
 ghost use Rattle.std.specs.Prelude.{◌≡◌};
 ghost use Rattle.multipart.specs.Answers.{said_part, part_of, said_counts, counts_of, ReadsBody};
 ghost use Rattle.multipart.specs.Walks.{Counted};
@@ -9,7 +11,7 @@ mod judge;
 mod store;
 
 #[repr(C)]
-#[derive(Drop)]
+#[derive(Clone, Copy)]
 pub struct BBox {
     pub xmin: f64,
     pub ymin: f64,
@@ -18,7 +20,7 @@ pub struct BBox {
 }
 
 #[repr(C)]
-#[derive(Drop)]
+#[derive(Clone, Copy)]
 pub struct Range {
     pub low: f64,
     pub high: f64,
@@ -26,7 +28,7 @@ pub struct Range {
 
 // What a body holds beside what goes into the stores.
 #[repr(C)]
-#[derive(Drop)]
+#[derive(Clone, Copy)]
 pub struct Body {
     pub bbox: BBox,
     pub z_range: Range,
@@ -35,21 +37,21 @@ pub struct Body {
     pub points: usize,
 }
 
-#[derive(Drop)]
+#[derive(Clone, Copy)]
 pub enum PartAnswer {
     Count(u32),
     Size,
 }
 
 // How many parts there are, and how many points the body says it has.
-#[derive(Drop)]
+#[derive(Clone, Copy)]
 pub enum CountsAnswer {
     Are(u32, u32),
     Short(usize, usize),
     Size(usize),
 }
 
-#[derive(Drop)]
+#[derive(Clone, Copy)]
 pub enum BodyAnswer {
     Whole(Body),
     Short(usize, usize),

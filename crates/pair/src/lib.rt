@@ -1,4 +1,6 @@
 // The pair checker: a .shp and its .shx against the rules P1 to P17 of document 01, once over the bytes.
+#![tactic(auto)]
+
 ghost use Rattle.std.specs.Prelude.{◌≡◌, true, ◌≤◌, length, drop};
 ghost use Rattle.rules.specs.Rules.{null_taken, verdict, walk_from, none_yet};
 ghost use Rattle.pair.specs.Plans.{plan_for, taken_from};
@@ -11,7 +13,7 @@ mod leaves;
 mod plans;
 
 // Yes, with the totals; or no, with the rule that is broken first and the record that breaks it, 0 for the headers.
-#[derive(Drop)]
+#[derive(Clone, Copy)]
 pub enum Verdict {
     Yes {
         records: usize,

@@ -9,7 +9,7 @@ use format::kinds::{Found, Kind};
 use format::lengths::{Content, Lengths};
 use format::units::Words;
 
-#[derive(Drop)]
+#[derive(Clone, Copy)]
 pub struct Plan {
     pub kind: Kind,
     // a record has a box and says how many points it has; it has parts; the points of one that does not say
@@ -24,7 +24,7 @@ pub struct Plan {
     pub lengths: Lengths,
 }
 
-#[derive(Drop)]
+#[derive(Clone, Copy)]
 pub enum Planned {
     Is(Plan),
     NotTaken,

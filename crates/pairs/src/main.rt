@@ -1,4 +1,6 @@
 // The line of `paircheck` for each two arguments, with the first one's name: many pairs in one run. tools/pairs.py makes what it is run on.
+#![tactic(auto)]
+
 fn main() {
     let n = os::arg_count() / 2;
     let mut k = 0;

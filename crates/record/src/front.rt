@@ -7,14 +7,14 @@ use format::kinds::{Found, Kind};
 use format::lengths::{Content, Lengths};
 use format::units::Bytes;
 
-#[derive(Drop)]
+#[derive(Clone, Copy)]
 pub enum Judged {
     On,
     Refused(RecordAnswer),
 }
 
 // The content's kind with its lengths, or a refusal.
-#[derive(Drop)]
+#[derive(Clone, Copy)]
 pub enum Front {
     On(Kind, Lengths),
     Refused(RecordAnswer),

@@ -1,4 +1,6 @@
 // Reading a record: dispatch by kind, Null, points, and bodies of several points, as a multipoint or in parts.
+#![tactic(auto)]
+
 ghost use Rattle.std.specs.Prelude.{length, drop};
 ghost use Rattle.format.specs.Lengths.{form_of};
 ghost use Rattle.record.specs.Reading.{by_form, ReadsRecord};
@@ -16,7 +18,7 @@ mod several;
 mod sizes;
 
 // The kind that a typed read wants; `Any` takes each taken one.
-#[derive(Drop)]
+#[derive(Clone, Copy)]
 pub enum Wanted {
     Any,
     Kind(i32),
@@ -24,7 +26,7 @@ pub enum Wanted {
 
 // A point of one of the three point kinds; 0 for a z or m that its kind does not have.
 #[repr(C)]
-#[derive(Drop)]
+#[derive(Clone, Copy)]
 pub struct Point {
     pub x: f64,
     pub y: f64,
@@ -33,7 +35,7 @@ pub struct Point {
 }
 
 // What was read, with the kind's code; for several points also whether they have m.
-#[derive(Drop)]
+#[derive(Clone, Copy)]
 pub enum RecordAnswer {
     Null,
     Point(i32, Point),

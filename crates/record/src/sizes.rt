@@ -9,7 +9,7 @@ use format::lengths::{Formula, Lengths};
 use format::units::{Bytes, InWords};
 
 // Which of the two formulas of a kind with several points a size is.
-#[derive(Drop)]
+#[derive(Clone, Copy)]
 pub enum Sized {
     Without,
     With,

@@ -120,7 +120,7 @@ pub fn body_written(
 }
 
 // The writer's state; how far the input and the records have come, and what was seen of the entries. Not fine after a refusal.
-#[derive(Drop)]
+#[derive(Clone, Copy)]
 struct Place {
     fine: bool,
     at: usize,

@@ -55,7 +55,7 @@ pub fn bounds(s: &[u8], at: usize) -> BBoxZ {
 }
 
 // So many entries went into a store, and the input goes on at a place.
-#[derive(Drop)]
+#[derive(Clone, Copy)]
 pub struct Run {
     pub n: usize,
     pub at: usize,
@@ -122,7 +122,7 @@ pub fn least(a: usize, b: usize) -> usize
 }
 
 // A shape's tables, each at the front of its store: p counts, nx values of x, ny of y, nz of z and nm of m. The input goes on at a place.
-#[derive(Drop)]
+#[derive(Clone, Copy)]
 pub struct Shape {
     pub bounds: BBoxZ,
     pub p: usize,

@@ -1,6 +1,8 @@
 // Runs the library on cases that the Rust crate answered and counts those where the two differ. Cases come in by standard input, as many as there are
 // (stream.rt; rust/differential/cases.rs makes them), and one line goes out. Beside src/ stands the fixed list that the gate runs. It is a test: its
 // contracts say next to nothing, and what is proved of it is that it is safe and ends.
+#![tactic(auto)]
+
 ghost use Rattle.std.specs.Prelude.{◌≡◌, length};
 
 use libc::STDOUT_FILENO;

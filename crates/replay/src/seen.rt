@@ -2,7 +2,7 @@
 use header::bbox::BBoxZ;
 
 // How far the expected bytes were seen, and whether all was the same so far.
-#[derive(Drop)]
+#[derive(Clone, Copy)]
 pub struct Seen {
     pub at: usize,
     pub same: bool,

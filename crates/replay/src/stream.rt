@@ -7,7 +7,7 @@ use libc::STDIN_FILENO;
 use std::num::wrapping_add_u64;
 
 // How many cases there were, how many were wrong, and the number of the first wrong one. Broken is 1 where the stream does not have its form.
-#[derive(Drop)]
+#[derive(Clone, Copy)]
 pub struct Tally {
     pub cases: u64,
     pub wrong: u64,

@@ -1,4 +1,6 @@
 // Two files by the names in the arguments, and the line that `paircheck` prints of them. Internal: its calls read and write.
+#![tactic(auto)]
+
 use libc::STDOUT_FILENO;
 use pair::Verdict;
 
@@ -12,7 +14,7 @@ fn number(label: &[u8], n: u64) {
 }
 
 // What was read of a file: so many bytes, or nothing, since it is missing, does not open or cannot be read.
-#[derive(Drop)]
+#[derive(Clone, Copy)]
 enum Got {
     Bytes(usize),
     Cannot,

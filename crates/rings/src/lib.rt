@@ -1,9 +1,11 @@
 // Rings: whether a run of points is closed, closing it, and which way it turns. A run of n points is the first n of a store of x and of one of y.
 // `Tables` is the answer where either store has fewer.
+#![tactic(auto)]
+
 ghost use Rattle.std.specs.Prelude.{◌≡◌};
 ghost use Rattle.rings.specs.Answers.{said_closed, said_turning, closed_of, turning_of, Closing};
 
-#[derive(Drop)]
+#[derive(Clone, Copy)]
 pub enum ClosedAnswer {
     Closed,
     Open,
@@ -11,14 +13,14 @@ pub enum ClosedAnswer {
 }
 
 // How many points the closed run has; `Room`, where a store does not hold so many.
-#[derive(Drop)]
+#[derive(Clone, Copy)]
 pub enum CloseAnswer {
     Points(usize),
     Tables,
     Room(usize),
 }
 
-#[derive(Drop)]
+#[derive(Clone, Copy)]
 pub enum RingAnswer {
     OuterRing,
     InnerRing,

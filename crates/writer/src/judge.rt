@@ -13,35 +13,35 @@ use format::kinds::Kind;
 use format::lengths::{Counted, Formula};
 use format::units::{Bytes, Words};
 
-#[derive(Drop)]
+#[derive(Clone, Copy)]
 pub enum KindJudged {
     Fine(Kind, Formula),
     Refused(AddAnswer),
 }
 
 // The points that the tables agree on.
-#[derive(Drop)]
+#[derive(Clone, Copy)]
 pub enum TablesJudged {
     Agree(usize),
     Disagree,
 }
 
 // The content's words, and the file's with the record.
-#[derive(Drop)]
+#[derive(Clone, Copy)]
 pub enum LengthJudged {
     Held(Words, Words),
     Long,
 }
 
 // Whether both buffers have room; or the bytes that one of them has to have.
-#[derive(Drop)]
+#[derive(Clone, Copy)]
 pub enum RoomJudged {
     Fits,
     Needs(usize),
 }
 
 // The kind, the content's words, the file's words with the record, and the record's bytes.
-#[derive(Drop)]
+#[derive(Clone, Copy)]
 pub enum Judged {
     Fine(Kind, Words, Words, Bytes),
     Refused(AddAnswer),

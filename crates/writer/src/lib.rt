@@ -1,4 +1,6 @@
 // Writing a pair record by record: the state, adding a record, finishing.
+#![tactic(auto)]
+
 ghost use Rattle.writer.specs.Adding.{lent, Adds, adding};
 ghost use Rattle.writer.specs.Finishing.{Finishes};
 
@@ -13,7 +15,7 @@ pub mod states;
 
 // The words written so far, the next record's number, the kind's code, the points written so far and the header's box.
 #[repr(C)]
-#[derive(Drop)]
+#[derive(Clone, Copy)]
 pub struct State {
     pub words: Words,
     pub number: i32,
@@ -23,7 +25,7 @@ pub struct State {
 }
 
 // How many bytes the record took, or why it was refused.
-#[derive(Drop)]
+#[derive(Clone, Copy)]
 pub enum AddAnswer {
     Added(usize),
     Size,
@@ -36,20 +38,20 @@ pub enum AddAnswer {
 }
 
 // The answer, and the state after the call: a refusal returns the one that it was given.
-#[derive(Drop)]
+#[derive(Clone, Copy)]
 pub struct Adding {
     pub answer: AddAnswer,
     pub state: State,
 }
 
-#[derive(Drop)]
+#[derive(Clone, Copy)]
 pub enum FinishAnswer {
     Finished,
     Size,
 }
 
 // Both headers; zeros, where there was no writer state.
-#[derive(Drop)]
+#[derive(Clone, Copy)]
 pub struct Finishing {
     pub answer: FinishAnswer,
     pub shp: [u8; 100],

@@ -10,7 +10,7 @@ use format::units::Words;
 use header::bbox::BBoxZ;
 
 // The kind with a code, and the formula of its content with m, where it is taken.
-#[derive(Drop)]
+#[derive(Clone, Copy)]
 pub enum Looked {
     Taken(Kind, Formula),
     NotTaken,

@@ -13,10 +13,10 @@ use Rattle.format.proofs.lengths.content_words.Tie as tie
 product : (c : tie.Start) → c.args.f.point * c.args.n < 2 ^ 48
 product c = small_product (search rules) (search rules)
 
-mul-words-2 : tie.Need-overflow-mul-words-2
+mul-words-2 : tie.Need-overflow_mul-words-2
 mul-words-2 c = omega (arith, product c.before.before)
 
-add-words-2 : tie.Need-overflow-add-words-2
+add-words-2 : tie.Need-overflow_add-words-2
 add-words-2 c = omega (arith, product c.before.before)
 
 returns : tie.Need-returns

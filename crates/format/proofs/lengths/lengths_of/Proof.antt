@@ -20,8 +20,8 @@ use Rattle.format.proofs.lengths.lengths_of.Tie as tie
 back : (a : tie.Start) → to_z w32 (of_z w32 a.args.code) ≡ a.args.code
 back a = to_z-of_z w32 a.args.code a.ranges.code
 
-looked : (c : tie.After-find-kind) → said_found c.find-kind.result ≡ kind_of c.before.args.code
-looked c = c.find-kind.ensures ∙ ap kind_of (back c.before)
+looked : (c : tie.After-find_kind) → said_found c.find_kind.result ≡ kind_of c.before.args.code
+looked c = c.find_kind.ensures ∙ ap kind_of (back c.before)
 
 kind_is : (c : tie.After-known-told) → kind_at c.before.before.before.before.args.code ≡ some c.before.k.given.0.0
 kind_is c = kind_found _ _ (looked c.before.before.before) _ c.before.k.given.1
@@ -44,7 +44,7 @@ returns-3 c =
     rw (content_by k.before.before.before.before.args.code _ (kind_is k), ne_eqb _ 31 c.before.before.if1.false, eq-eqb _ 0 c.if2.true)
 
 -- behind the codes, by whether there are several points
-others : (c : tie.After-has-several) (b : Bool) → c.has-several.result ≡ b
+others : (c : tie.After-has_several) (b : Bool) → c.has_several.result ≡ b
     → content_of c.before.before.before.before.before.before.before.before.before.args.code
     ≡ gives (let k = c.before.before.before.before.before.before.k.given.0.0 in cond b (several_lengths k.parts k) (lengths_for k one_point))
 others c b e =
@@ -53,7 +53,7 @@ others c b e =
       content_by k.before.before.before.before.args.code _ (kind_is k),
       ne_eqb _ 31 c.before.before.before.if1.false,
       ne_eqb _ 0 c.before.if2.false,
-      sym c.has-several.ensures ∙ e,
+      sym c.has_several.ensures ∙ e,
     )
 
 returns-4 : tie.Need-returns-4

@@ -15,7 +15,7 @@ fits32 c = search
 held : (z : ℤ) → SFits w32 z → to_z w64 (of_z w64 (to_z w32 (of_z w32 z))) ≡ z
 held z f = ap (λ (x : ℤ). to_z w64 (of_z w64 x)) (to_z-of_z w32 z f) ∙ to_z-of_z w64 z (wide z f)
 
-cast-wide : tie.Need-overflow-cast-wide
+cast-wide : tie.Need-overflow_cast-wide
 cast-wide c =
     let a = c.before.before in
     rw (to_z-of_z w32 a.args.w.0 (fits32 a)) (wide a.args.w.0 (fits32 a))
