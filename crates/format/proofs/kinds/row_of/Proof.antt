@@ -12,22 +12,22 @@ use Rattle.format.proofs.SignLaws.{sign_test, casts}
 use Rattle.format.proofs.kinds.row_of.Statement.{statement}
 use Rattle.format.proofs.kinds.row_of.Tie as tie
 
-returns : tie.Need-returns
+returns : tie.Need-returns-then-code-lt0
 returns c =
     let a = c.before in
-    (row_neg a.args.code (sign_test w32 a.args.code a.ranges.code true c.if1.true), omega arith)
+    (row_neg a.args.code (sign_test w32 a.args.code a.ranges.code true c.if-code-lt0.true), omega arith)
 
-cast-search : tie.Need-overflow-cast-search
-cast-search c = casts c.before.args.code c.before.ranges.code c.if1.false
+cast-search : tie.Need-overflow_cast-code
+cast-search c = casts c.before.args.code c.before.ranges.code c.if-code-lt0.false
 
-returns-2 : tie.Need-returns-2
+returns-2 : tie.Need-returns-else-code-lt0
 returns-2 c =
     let a = c.before.before in (
       c.search.ensures.0
           ∙ (ap (λ (z : ℤ). row_of (nat_abs z) kinds) (to_z-of_z w32 a.args.code a.ranges.code)
-          ∙ row_non a.args.code (sign_test w32 a.args.code a.ranges.code false c.before.if1.false)),
+          ∙ row_non a.args.code (sign_test w32 a.args.code a.ranges.code false c.before.if-code-lt0.false)),
       c.search.ensures.1,
     )
 
-pub row-of-spec : {M : Type 1} → statement M
-row-of-spec = tie.close (tie.spec cast-search (λ c κs. search rules) returns returns-2)
+pub row_of_spec : {M : Type 1} → statement M
+row_of_spec = tie.close (tie.spec cast-search (λ c κs. search rules) returns returns-2)

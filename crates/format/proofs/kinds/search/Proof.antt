@@ -9,38 +9,38 @@ use Rattle.format.proofs.KindLaws.{row_here, row_on}
 use Rattle.format.proofs.kinds.search.Statement.{statement}
 use Rattle.format.proofs.kinds.search.Tie as tie
 
-abbrev invariant-loop : tie.invariant-loop
+abbrev invariant-loop : tie.invariant-loop-i
 invariant-loop code i₀ i = (i ≤ 14) × (i + row_of code (drop i kinds) ≡ row_of code kinds)
 
-abbrev decreases-loop : tie.decreases-loop
+abbrev decreases-loop : tie.decreases-loop-i
 decreases-loop code i₀ i = 14 - i
 
-loop-holds : tie.Need-loop-init invariant-loop decreases-loop
+loop-holds : tie.Need-loop-i-init invariant-loop decreases-loop
 loop-holds c = (omega arith, zero-add _)
 
-returns : tie.Need-returns invariant-loop decreases-loop
+returns : tie.Need-returns-then-k-code invariant-loop decreases-loop
 unfolding kinds
 returns c =
     let l = c.before.before.before.before in
-    let e : row_of l.before.args.code (drop l.loop.i kinds) ≡ 0 = row_here l.before.args.code kinds _ l.loop.i (omega arith) c.if1.true in
+    let e : row_of l.before.args.code (drop l.loop-i.i kinds) ≡ 0 = row_here l.before.args.code kinds _ l.loop-i.i (omega arith) c.if-k-code.true in
     (omega arith, omega arith)
 
-loop-again : tie.Need-loop-preserved invariant-loop decreases-loop
+loop-again : tie.Need-loop-i-preserved invariant-loop decreases-loop
 unfolding kinds
 loop-again c =
     let l = c.before.before.before.before in
-    let e = row_on l.before.args.code kinds _ l.loop.i (omega arith) c.if1.false in
+    let e = row_on l.before.args.code kinds _ l.loop-i.i (omega arith) c.if-k-code.false in
     (omega arith, omega (arith, e))
 
-returns-2 : tie.Need-returns-2 invariant-loop decreases-loop
+returns-2 : tie.Need-returns invariant-loop decreases-loop
 unfolding kinds row_of
 returns-2 c =
-    let z : c.before.loop.i ≡ 14 = omega arith in
-    let e = rw z at c.before.loop.invariant.1 in
+    let z : c.before.loop-i.i ≡ 14 = omega arith in
+    let e = rw z at c.before.loop-i.invariant.1 in
     (e, omega arith)
 
-pub search-spec : {M : Type 1} → statement M
-search-spec =
+pub search_spec : {M : Type 1} → statement M
+search_spec =
     tie.close
     (tie.spec
     invariant-loop

@@ -19,16 +19,16 @@ mul-words-2 c = omega (arith, product c.before.before)
 add-words-2 : tie.Need-overflow_add-words-2
 add-words-2 c = omega (arith, product c.before.before)
 
-returns : tie.Need-returns
+returns : tie.Need-returns-then-words-lt2147483648
 unfolding counted
-returns c = rw (lt-ltb _ (2 ^ 31) c.if1.true)
+returns c = rw (lt-ltb _ (2 ^ 31) c.if-words-lt2147483648.true)
 
-returns-2 : tie.Need-returns-2
+returns-2 : tie.Need-returns-else-words-lt2147483648
 unfolding counted
-returns-2 c = rw (le-ltb _ (2 ^ 31) c.if1.false)
+returns-2 c = rw (le-ltb _ (2 ^ 31) c.if-words-lt2147483648.false)
 
-pub content-words-spec : {M : Type 1} → statement M
-content-words-spec =
+pub content_words_spec : {M : Type 1} → statement M
+content_words_spec =
     tie.close
     (tie.spec
     (λ c. search rules) (λ c. search rules) (λ c. search rules) (λ c. search rules)

@@ -9,8 +9,8 @@ use Rattle.format.proofs.lengths.has_several.Tie as tie
 or_left : (a b : Bool) → a ≡ false → b ≡ (a || b)
 or_left a b e = sym (ap (λ (x : Bool). x || b) e)
 
-returns-2 : tie.Need-returns-2
-returns-2 c = c.is-multipoint.ensures ∙ or_left _ _ c.before.if1.false
+returns-2 : tie.Need-returns
+returns-2 c = c.is_multipoint.ensures ∙ or_left _ _ c.before.if-k.false
 
-pub has-several-spec : {M : Type 1} → statement M
-has-several-spec = tie.close (tie.spec (λ c. search rules) (λ c κs. search rules) returns-2)
+pub has_several_spec : {M : Type 1} → statement M
+has_several_spec = tie.close (tie.spec (λ c. search rules) (λ c κs. search rules) returns-2)

@@ -11,5 +11,5 @@ returns : tie.Need-returns
 unfolding fixed_words point_words
 returns c = ap (λ (w : ℕ). record { fixed = w; point = 0 }) (omega (arith, c.point_doubles.ensures.0))
 
-pub of-point-spec : {M : Type 1} → statement M
-of-point-spec = tie.close (tie.spec (λ c κs. search rules) (λ c. search rules) returns)
+pub of_point_spec : {M : Type 1} → statement M
+of_point_spec = tie.close (tie.spec (λ c κs. search rules) (λ c. search rules) returns)

@@ -26,11 +26,11 @@ returns c =
     let p = z.before in
     let a = p.before.args in
     ap₂ (λ (f p : ℕ). record { fixed = f; point = p })
-    (fixed-is a.in_parts a.z a.m p.given.ensures.0 z.given2.ensures.0 m.given3.ensures.0)
-    (c.point-doubles.ensures.0 ∙ point-is a.in_parts a.z a.m)
+    (fixed-is a.in_parts a.z a.m p.given-counts.ensures.0 z.given.ensures.0 m.given-2.ensures.0)
+    (c.point_doubles.ensures.0 ∙ point-is a.in_parts a.z a.m)
 
-pub of-several-spec : {M : Type 1} → statement M
-of-several-spec =
+pub of_several_spec : {M : Type 1} → statement M
+of_several_spec =
     tie.close
     (tie.spec
     (λ c κs. search rules) (λ c. search rules) (λ c κs. search rules) (λ c κs. search rules) (λ c. search rules) (λ c. search rules) (λ c. search rules) (λ c. search rules) (λ c κs. search rules)

@@ -20,7 +20,7 @@ cast-wide c =
     let a = c.before.before in
     rw (to_z-of_z w32 a.args.w.0 (fits32 a)) (wide a.args.w.0 (fits32 a))
 
-add-t3 : tie.Need-overflow-add-t3
+add-t3 : tie.Need-overflow_add-result
 add-t3 c =
     let a = c.before.before in
     rw (held a.args.w.0 (fits32 a)) (doubled_fits a.args.w.0 (fits32 a))
@@ -31,5 +31,5 @@ returns c =
     let z = a.args.w.0 in
     rw (held z (fits32 a), to_z-of_z w64 (z +ℤ z) (doubled_fits z (fits32 a)))
 
-pub to-bytes-spec : {M : Type 1} → statement M
-to-bytes-spec = tie.close (tie.spec cast-wide add-t3 returns)
+pub to_bytes_spec : {M : Type 1} → statement M
+to_bytes_spec = tie.close (tie.spec cast-wide add-t3 returns)
