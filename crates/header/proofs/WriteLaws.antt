@@ -5,7 +5,7 @@ use Prim.Native.Nat.{ℕ, ◌+◌, ◌≤◌}
 use native.Mathlib.Omega.{arith}
 use lib.IntN.{pos}
 use lib.ListN.{length, drop, replicate, length-append}
-use lib.Seq.{sets, sets_eq}
+use lib.Seq.{sets, sets-eq}
 use Rattle.format.specs.Numbers.{i32_be, i32_le, f64_le, f64s_le}
 use Rattle.format.proofs.Equations.{header_is, i32_be-is, i32_le-is, f64_le-is, f64s_le-cons, f64s_le-nil}
 use Rattle.format.proofs.LayoutLaws.{onto, sets_all}
@@ -32,8 +32,8 @@ code-stored : (a : List ℕ) → length a ≡ 4 → sets zeros 0 a ≡ sets zero
 code-stored a e =
     let p : 0 + length a ≤ length zeros = omega arith in
     let q : 0 + length (a ++ replicate 20 0) ≤ length zeros = omega (arith, length-append a (replicate 20 0)) in
-    rw e at (sets_eq a zeros 0 p)
-    ∙ (sym (append_assoc a (replicate 20 0) (drop 24 zeros)) ∙ rw (length-append, e) at (sym (sets_eq (a ++ replicate 20 0) zeros 0 q)))
+    rw e at (sets-eq a zeros 0 p)
+    ∙ (sym (append_assoc a (replicate 20 0) (drop 24 zeros)) ∙ rw (length-append, e) at (sym (sets-eq (a ++ replicate 20 0) zeros 0 q)))
 
 pub all_stored : (h : Header)
     → sets (sets (sets (sets (sets zeros 0 (i32_be (pos 9994))) 24 (i32_be h.file_length.0)) 28 (i32_le h.version)) 32 (i32_le h.shape_type)) 36 (f64s_le (box_list h.bbox))

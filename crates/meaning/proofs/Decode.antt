@@ -1,6 +1,6 @@
 -- The shape that a record's bytes hold, read by its kind's form; and how its length says whether m is there.
 use mathlib.Core.Path.{◌≡◌, refl, sym, ◌∙◌}
-use mathlib.Core.Bool.{Bool, true, false, ◌&&◌, ◌||◌, or_true}
+use mathlib.Core.Bool.{Bool, true, false, ◌&&◌, ◌||◌, or-true}
 use mathlib.Core.List.{List}
 use mathlib.Core.Option.{Option}
 use Prim.Native.Nat.{ℕ}
@@ -51,7 +51,7 @@ module _ (f z : Bool) (p n w : ℕ) (none : f ≡ false → p ≡ 0) where
   pub m-formula : (m q : Bool) → (m ≡ false → q ≡ false) → w ≡ words q → (eqb w (words false) || eqb w (words m)) ≡ true
   m-formula m false h e = rw (eq-eqb w (words false) e)
   m-formula false true h e = absurd (let z : ◌≡◌ {A = ℕ} 0 1 = cc (h refl) in omega arith)
-  m-formula true true h e = rw (eq-eqb w (words true) e) (or_true (eqb w (words false)))
+  m-formula true true h e = rw (eq-eqb w (words true) e) (or-true (eqb w (words false)))
 
 pub only_if : (m e : Bool) (o : Option Measure) → there o ≡ (m && e) → OnlyIf m o
 only_if true e o h = tt

@@ -8,7 +8,7 @@ use native.Mathlib.Omega.{arith}
 use lib.Ieee.{Float, binary64, of_bits, of_int}
 use lib.IntN.{ℤ, negsuc}
 use lib.ListN.{length, take, drop, set}
-use lib.Seq.{sets, sets_eq, length-take-le}
+use lib.Seq.{sets, sets-eq, length-take-le}
 use Rattle.format.specs.Numbers.{le_f64, doubles_at}
 use Rattle.format.proofs.NumberLaws.{length-doubles_at, doubles_on, doubles_end}
 use Rattle.multipart.specs.Body.{no_data, raised}
@@ -44,4 +44,4 @@ front-back out front k at s h e =
     let d = length-doubles_at 8 k at s in
     let f : front ≡ doubles_at 8 k at s = e ∙ rw (sub-zero, length-take-le k out h) in
     let g : 0 + length (doubles_at 8 k at s) ≤ length out = rw d (omega arith) in
-    rw (f, sub-zero) (sym (sets_eq (doubles_at 8 k at s) out 0 g ∙ rw (zero-add, d)))
+    rw (f, sub-zero) (sym (sets-eq (doubles_at 8 k at s) out 0 g ∙ rw (zero-add, d)))

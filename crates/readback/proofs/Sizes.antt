@@ -1,6 +1,6 @@
 -- The size of a content with several points says whether m is there: the formulas with and without it never agree.
 use mathlib.Core.Path.{◌≡◌, refl, sym}
-use mathlib.Core.Bool.{Bool, true, false, ◌&&◌, ◌||◌, or_true}
+use mathlib.Core.Bool.{Bool, true, false, ◌&&◌, ◌||◌, or-true}
 use Prim.Native.Nat.{ℕ, ◌*◌}
 use native.Mathlib.Omega.{arith}
 use lib.Dec.{eqb}
@@ -20,5 +20,5 @@ module _ (f z : Bool) (p n : ℕ) (none : f ≡ false → p ≡ 0) where
   m-there true false h = ne_eqb (bytes_of f z p n false) (bytes_of f z p n true) (λ d. omega (arith, several-words f z true p n none, several-words f z false p n none))
 
   pub formula-there : (q : Bool) → (eqb (bytes_of f z p n q) (bytes_of f z p n false) || q) ≡ true
-  formula-there true = or_true (eqb (bytes_of f z p n true) (bytes_of f z p n false))
+  formula-there true = or-true (eqb (bytes_of f z p n true) (bytes_of f z p n false))
   formula-there false = rw (eq-eqb (bytes_of f z p n false) (bytes_of f z p n false) refl)

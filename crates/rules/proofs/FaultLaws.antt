@@ -1,6 +1,6 @@
 -- A record without fault, by what its rules say.
 use mathlib.Core.Path.{◌≡◌, refl}
-use mathlib.Core.Bool.{Bool, true, false, cond, ◌&&◌, ◌||◌, or_true}
+use mathlib.Core.Bool.{Bool, true, false, cond, ◌&&◌, ◌||◌, or-true}
 use mathlib.Core.List.{List, ◌++◌}
 use Prim.Native.Nat.{ℕ, ◌+◌, ◌*◌, ◌≤◌}
 use native.Mathlib.Omega.{arith}
@@ -49,7 +49,7 @@ module _ (t : Taken) (l : List ℕ) where
   code_own e = go (eqb (little_at 8 l) 0) refl e
     where
       go : (b : Bool) → eqb (little_at 8 l) 0 ≡ b → little_at 8 l ≡ (cond b null_taken t).kind.code → (eqb (little_at 8 l) t.kind.code || b) ≡ true
-      go true q e = or_true (eqb (little_at 8 l) t.kind.code)
+      go true q e = or-true (eqb (little_at 8 l) t.kind.code)
       go false q e = rw (eq-eqb _ _ e)
 
 module _ (t : Taken) (l x : List ℕ) (at k : ℕ) where

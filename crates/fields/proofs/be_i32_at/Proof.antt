@@ -13,7 +13,7 @@ returns : tie.Need-returns
 returns c =
     let a = c.before.before.before.args in
     let e : c.signed.result ≡ to_z w32 (be (field 4 a.at a.s.now)) = cc in
-    rw be_i32-is (back w32 c.signed.result c.signed.type-inv ∙ e)
+    rw be_i32-is (back w32 c.signed.result c.signed.type_inv ∙ e)
 
-pub be-i32-at-spec : {M : Type 1} → statement M
-be-i32-at-spec = tie.close (tie.spec (λ c κs. search rules) (λ c κs. search rules) returns)
+pub be_i32_at_spec : {M : Type 1} → statement M
+be_i32_at_spec = tie.close (tie.spec (λ c κs. search rules) (λ c κs. search rules) returns)

@@ -9,7 +9,7 @@ use Rattle.fields.proofs.below.Tie as tie
 returns : tie.Need-returns
 returns c =
     let s = c.before.before.before in
-    c.below-number.ensures ∙ ap₂ lt (double-back s.args.x c.before.before.bits.result s.well-formed.0.1 c.before.before.bits.ensures) (double-back s.args.y c.before.bits2.result s.well-formed.1.0.1 c.before.bits2.ensures)
+    c.below_number.ensures ∙ ap₂ lt (double-back s.args.x c.before.before.bits.result s.well_formed.0.1 c.before.before.bits.ensures) (double-back s.args.y c.before.bits-2.result s.well_formed.1.0.1 c.before.bits-2.ensures)
 
-pub below-spec : {M : Type 1} → statement M
-below-spec = tie.close (tie.spec (λ c κs. search rules) (λ c κs. search rules) (λ c κs. search rules) returns)
+pub below_spec : {M : Type 1} → statement M
+below_spec = tie.close (tie.spec (λ c κs. search rules) (λ c κs. search rules) (λ c κs. search rules) returns)

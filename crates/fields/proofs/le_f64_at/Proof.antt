@@ -7,5 +7,5 @@ use Rattle.fields.proofs.le_f64_at.Tie as tie
 returns : tie.Need-returns
 returns c = rw le_f64-is (cc)
 
-pub le-f64-at-spec : {M : Type 1} → statement M
-le-f64-at-spec = tie.close (tie.spec (λ c κs. search rules) (λ c κs. search rules) returns)
+pub le_f64_at_spec : {M : Type 1} → statement M
+le_f64_at_spec = tie.close (tie.spec (λ c κs. search rules) (λ c κs. search rules) returns)

@@ -13,7 +13,7 @@ returns : tie.Need-returns
 returns c =
     let a = c.before.before.before.args in
     let e : c.signed.result ≡ to_z w32 (le (field 4 a.at a.s.now)) = cc in
-    rw le_i32-is (back w32 c.signed.result c.signed.type-inv ∙ e)
+    rw le_i32-is (back w32 c.signed.result c.signed.type_inv ∙ e)
 
-pub le-i32-at-spec : {M : Type 1} → statement M
-le-i32-at-spec = tie.close (tie.spec (λ c κs. search rules) (λ c κs. search rules) returns)
+pub le_i32_at_spec : {M : Type 1} → statement M
+le_i32_at_spec = tie.close (tie.spec (λ c κs. search rules) (λ c κs. search rules) returns)

@@ -11,6 +11,6 @@ returns c =
     let a = c.before.before.before.before.before.before in
     rw (i32_be-is, big-is) (cc (back w32 a.args.z a.ranges.z.sfits))
 
-pub put-be-i32-spec : {M : Type 1} → statement M
-put-be-i32-spec =
+pub put_be_i32_spec : {M : Type 1} → statement M
+put_be_i32_spec =
     tie.close (tie.spec (λ c κs. search rules) (λ c κs. search rules) (λ c. search rules) returns)

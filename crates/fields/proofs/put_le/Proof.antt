@@ -11,30 +11,30 @@ use Rattle.fields.proofs.Turns.{put_le_turn}
 use Rattle.fields.proofs.put_le.Statement.{statement}
 use Rattle.fields.proofs.put_le.Tie as tie
 
-abbrev invariant-loop : tie.invariant-loop
+abbrev invariant-loop : tie.invariant-loop-i
 invariant-loop out₀ at x k v₀ i₀ out v i =
     (i ≤ k) × (length out ≡ length out₀) × (sets out (at + i) (le_bytes (k - i) v) ≡ sets out₀ at (le_bytes k x))
 
-abbrev decreases-loop : tie.decreases-loop
+abbrev decreases-loop : tie.decreases-loop-i
 decreases-loop out₀ at x k v₀ i₀ out v i = k - i
 
-loop-holds : tie.Need-loop-init invariant-loop decreases-loop
+loop-holds : tie.Need-loop-i-init invariant-loop decreases-loop
 loop-holds c = (omega arith, refl, rw (add-zero, sub-zero))
 
-loop-again : tie.Need-loop-preserved invariant-loop decreases-loop
+loop-again : tie.Need-loop-i-preserved invariant-loop decreases-loop
 loop-again c =
-    let l = c.before.loop in
+    let l = c.before.loop-i in
     let a = c.before.before.args in
     (omega arith, simp length-set l.invariant.1, put_le_turn l.out a.k a.at l.i l.v (omega arith) ∙ l.invariant.2)
 
 returns : tie.Need-returns invariant-loop decreases-loop
 returns c =
-    let l = c.before.loop in
+    let l = c.before.loop-i in
     let z : c.before.before.args.k - l.i ≡ 0 = omega arith in
     rw (z, le_bytes_zero) at l.invariant.2
 
-pub put-le-spec : {M : Type 1} → statement M
-put-le-spec =
+pub put_le_spec : {M : Type 1} → statement M
+put_le_spec =
     tie.close
     (tie.spec
     invariant-loop

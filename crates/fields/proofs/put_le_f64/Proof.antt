@@ -7,6 +7,6 @@ use Rattle.fields.proofs.put_le_f64.Tie as tie
 returns : tie.Need-returns
 returns c = rw (f64_le-is, double-is) (cc)
 
-pub put-le-f64-spec : {M : Type 1} → statement M
-put-le-f64-spec =
+pub put_le_f64_spec : {M : Type 1} → statement M
+put_le_f64_spec =
     tie.close (tie.spec (λ c κs. search rules) (λ c κs. search rules) (λ c. search rules) returns)

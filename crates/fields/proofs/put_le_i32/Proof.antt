@@ -11,6 +11,6 @@ returns c =
     let a = c.before.before.before.before.before.before in
     rw (i32_le-is, little-is) (cc (back w32 a.args.z a.ranges.z.sfits))
 
-pub put-le-i32-spec : {M : Type 1} → statement M
-put-le-i32-spec =
+pub put_le_i32_spec : {M : Type 1} → statement M
+put_le_i32_spec =
     tie.close (tie.spec (λ c κs. search rules) (λ c κs. search rules) (λ c. search rules) returns)

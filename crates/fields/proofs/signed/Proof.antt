@@ -8,14 +8,14 @@ use borrow.Author.Rules.{rules}
 use Rattle.fields.proofs.signed.Statement.{statement}
 use Rattle.fields.proofs.signed.Tie as tie
 
-returns-2 : tie.Need-returns-2
+returns-2 : tie.Need-returns-else-n-lt2147483648
 returns-2 c =
     let n = c.before.args.n in
     let e : 4294967295 - (4294967295 - n) ≡ n = omega arith in
     ap (to_z w32) e
 
-pub signed-spec : {M : Type 1} → statement M
-signed-spec =
+pub signed_spec : {M : Type 1} → statement M
+signed_spec =
     tie.close
     (tie.spec
     (λ c. search rules) (λ c. search rules) (λ c. search rules) (λ c. search rules)

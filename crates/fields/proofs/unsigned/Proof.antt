@@ -10,36 +10,36 @@ use Rattle.format.proofs.SignLaws.{neg_bits, non_bits}
 use Rattle.fields.proofs.unsigned.Statement.{statement}
 use Rattle.fields.proofs.unsigned.Tie as tie
 
-not_low : (c : tie.Then1) → 4294967295 - of_z w32 c.before.args.z < 2 ^ 31
-not_low c = omega (arith, neg_bits w32 c.before.args.z c.before.ranges.z c.if1.true)
+not_low : (c : tie.Then-z-lt0) → 4294967295 - of_z w32 c.before.args.z < 2 ^ 31
+not_low c = omega (arith, neg_bits w32 c.before.args.z c.before.ranges.z c.if-z-lt0.true)
 
-low : (c : tie.Else1) → of_z w32 c.before.args.z < 2 ^ 31
-low c = non_bits w32 c.before.args.z c.before.ranges.z c.if1.false
+low : (c : tie.Else-z-lt0) → of_z w32 c.before.args.z < 2 ^ 31
+low c = non_bits w32 c.before.args.z c.before.ranges.z c.if-z-lt0.false
 
-cast-result : tie.Need-overflow-cast-result
+cast-result : tie.Need-overflow_cast-result
 cast-result c =
     let h : 4294967295 - of_z w32 c.before.args.z < 2 ^ 31 = not_low c in
     rw (to_z_pos w32 _ h) (tt, omega arith)
 
-sub-result : tie.Need-overflow-sub-result
+sub-result : tie.Need-overflow_sub-result
 sub-result c =
     let h : 4294967295 - of_z w32 c.before.args.z < 2 ^ 31 = not_low c in
     rw (to_z_pos w32 _ h) (omega arith)
 
-cast-result-2 : tie.Need-overflow-cast-result-2
+cast-result-2 : tie.Need-overflow_cast-result-else-z-lt0
 cast-result-2 c =
     let h : of_z w32 c.before.args.z < 2 ^ 31 = low c in
     rw (to_z_pos w32 _ h) (tt, omega arith)
 
-returns : tie.Need-returns
+returns : tie.Need-returns-then-z-lt0
 returns c =
     let h : 4294967295 - of_z w32 c.before.args.z < 2 ^ 31 = not_low c in
     rw (to_z_pos w32 _ h) (omega (arith, of_z_fits w32 c.before.args.z c.before.ranges.z))
 
-returns-2 : tie.Need-returns-2
+returns-2 : tie.Need-returns-else-z-lt0
 returns-2 c =
     let h : of_z w32 c.before.args.z < 2 ^ 31 = low c in
     rw (to_z_pos w32 _ h) (refl, omega arith)
 
-pub unsigned-spec : {M : Type 1} → statement M
-unsigned-spec = tie.close (tie.spec cast-result sub-result cast-result-2 returns returns-2)
+pub unsigned_spec : {M : Type 1} → statement M
+unsigned_spec = tie.close (tie.spec cast-result sub-result cast-result-2 returns returns-2)

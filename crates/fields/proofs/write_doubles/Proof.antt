@@ -11,35 +11,35 @@ use Rattle.fields.proofs.Turns.{write_turn}
 use Rattle.fields.proofs.write_doubles.Statement.{statement}
 use Rattle.fields.proofs.write_doubles.Tie as tie
 
-abbrev invariant-loop : tie.invariant-loop
+abbrev invariant-loop : tie.invariant-loop-i
 invariant-loop out₀ at xs i₀ out i =
     (i ≤ length xs) × (length out ≡ length out₀) × (sets out (at + 8 * i) (f64s_le (drop i xs)) ≡ sets out₀ at (f64s_le xs))
 
-abbrev decreases-loop : tie.decreases-loop
+abbrev decreases-loop : tie.decreases-loop-i
 decreases-loop out₀ at xs i₀ out i = length xs - i
 
-loop-holds : tie.Need-loop-init invariant-loop decreases-loop
+loop-holds : tie.Need-loop-i-init invariant-loop decreases-loop
 loop-holds c = (omega arith, refl, rw add-zero)
 
-loop-again : tie.Need-loop-preserved invariant-loop decreases-loop
+loop-again : tie.Need-loop-i-preserved invariant-loop decreases-loop
 loop-again c =
-    let p = c.before.before.put-le-f64 in
+    let p = c.before.before.put_le_f64 in
     let t = c.before.before.before.before.before.before in
     let a = t.before.before.before.args in (
       omega arith,
-      p.auto.0 ∙ t.loop.invariant.1,
-      rw p.ensures (write_turn t.loop.out a.at t.loop.i a.xs.now _ (omega arith) ∙ t.loop.invariant.2),
+      p.auto.out ∙ t.loop-i.invariant.1,
+      rw p.ensures (write_turn t.loop-i.out a.at t.loop-i.i a.xs.now _ (omega arith) ∙ t.loop-i.invariant.2),
     )
 
 returns : tie.Need-returns invariant-loop decreases-loop
 returns c =
-    let l = c.before.loop in
+    let l = c.before.loop-i in
     let a = c.before.before.before.before.args in
     let z : l.i ≡ length a.xs.now = omega arith in
     rw (z, drop-length, f64s_le-nil) at l.invariant.2
 
-pub write-doubles-spec : {M : Type 1} → statement M
-write-doubles-spec =
+pub write_doubles_spec : {M : Type 1} → statement M
+write_doubles_spec =
     tie.close
     (tie.spec
     invariant-loop

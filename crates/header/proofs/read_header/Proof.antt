@@ -62,12 +62,12 @@ words_are : (c : tie.After-be-i32-at2) → non_neg (be_i32 24 (s4 c.before)) ≡
 words_are c = ap non_neg (sym c.be-i32-at2.ensures)
 
 words-sign : (c : tie.After-be-i32-at2) (b : Bool) → lt_z (to_z w32 (of_z w32 c.be-i32-at2.result)) (pos 0) ≡ b → lt_z c.be-i32-at2.result (pos 0) ≡ b
-words-sign c b e = sign_test w32 c.be-i32-at2.result (record { sfits = c.be-i32-at2.type-inv }) b e
+words-sign c b e = sign_test w32 c.be-i32-at2.result (record { sfits = c.be-i32-at2.type_inv }) b e
 
 kind_is : (c : tie.After-find-kind) (f : Found) → c.find-kind.result ≡ f → known (le_i32 32 (s8 c)) ≡ is_given (said_found f)
 kind_is c f e =
     let r = c.before.le-i32-at2 in
-    known_found _ _ (c.find-kind.ensures ∙ ap kind_of (back w32 r.result r.type-inv ∙ r.ensures)) f e
+    known_found _ _ (c.find-kind.ensures ∙ ap kind_of (back w32 r.result r.type_inv ∙ r.ensures)) f e
 
 -- ---- past each test
 
@@ -77,7 +77,7 @@ at1 c = past (s1 c) 0 (start (s1 c)) (le-leb 4 _ c.if1.false)
 at2 : (c : tie.Else2) → header_of (s2 c) ≡ left 2 (s2 c)
 at2 c =
     let r = c.before.be-i32-at in
-    past (s2 c) 1 (at1 c.before.before) (code_is c.before ∙ is9994-yes r.result r.type-inv c.if2.false)
+    past (s2 c) 1 (at1 c.before.before) (code_is c.before ∙ is9994-yes r.result r.type_inv c.if2.false)
 
 at3 : (c : tie.Else3) → header_of (s3 c) ≡ left 3 (s3 c)
 at3 c = past (s3 c) 2 (at2 c.before) (le-leb 24 _ c.if3.false)
@@ -109,7 +109,7 @@ returns c =
 returns-2 : tie.Need-returns-2
 returns-2 c =
     let r = c.before.be-i32-at in
-    ap other_code (back w32 r.result r.type-inv ∙ r.ensures)
+    ap other_code (back w32 r.result r.type_inv ∙ r.ensures)
     ∙ refused (s1 c.before.before) 1 (at1 c.before.before) (code_is c.before ∙ is9994_no r.result c.if2.true)
 
 returns-3 : tie.Need-returns-3
@@ -141,7 +141,7 @@ returns-8 : tie.Need-returns-8
 returns-8 c =
     let f = c.before.before in
     let r = f.before.le-i32-at2 in
-    ap unknown (back w32 r.result r.type-inv ∙ r.ensures)
+    ap unknown (back w32 r.result r.type_inv ∙ r.ensures)
     ∙ refused (s8 f) 7 (at7 f.before.before) (kind_is f _ c.enum-told2.given.1)
 
 returns-9 : tie.Need-returns-9
@@ -155,9 +155,9 @@ returns-10 c =
     let v = f.before.before.before.le-i32-at in
     let w = f.before.before.before.before.before.before.be-i32-at2 in
     made (s9 t) _ _ _ _
-    (back w32 w.result w.type-inv ∙ w.ensures)
-    (back w32 v.result v.type-inv ∙ v.ensures)
-    (back w32 k.result k.type-inv ∙ k.ensures)
+    (back w32 w.result w.type_inv ∙ w.ensures)
+    (back w32 v.result v.type_inv ∙ v.ensures)
+    (back w32 k.result k.type_inv ∙ k.ensures)
     c.box-at.ensures
     ∙ sym (uncut (s9 t) (at8 t) c.before.if8.false)
 

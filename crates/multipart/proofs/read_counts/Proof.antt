@@ -43,12 +43,12 @@ s5 c = (e5 c).args.s.now
 p-sign : (c : tie.After-le-i32-at) (b : Bool) → lt_z (to_z w32 (of_z w32 c.le-i32-at.result)) (pos 0) ≡ b → lt_z (le_i32 32 (s2 c)) (pos 0) ≡ b
 p-sign c b e =
     let r = c.le-i32-at in
-    rw (← r.ensures) (sign_test w32 r.result (record { sfits = r.type-inv }) b e)
+    rw (← r.ensures) (sign_test w32 r.result (record { sfits = r.type_inv }) b e)
 
 n-sign : (c : tie.After-le-i32-at2) (b : Bool) → lt_z (to_z w32 (of_z w32 c.le-i32-at2.result)) (pos 0) ≡ b → lt_z (le_i32 36 (s5 c)) (pos 0) ≡ b
 n-sign c b e =
     let r = c.le-i32-at2 in
-    rw (← r.ensures) (sign_test w32 r.result (record { sfits = r.type-inv }) b e)
+    rw (← r.ensures) (sign_test w32 r.result (record { sfits = r.type_inv }) b e)
 
 -- ---- past each test
 
@@ -112,18 +112,18 @@ returns-5 c =
 cast-t13 : tie.Need-overflow-cast-t13
 cast-t13 c =
     let r = c.before.before.before.before.before.le-i32-at in
-    casts r.result (record { sfits = r.type-inv }) c.before.if5.false
+    casts r.result (record { sfits = r.type_inv }) c.before.if5.false
 
 cast-t14 : tie.Need-overflow-cast-t14
 cast-t14 c =
     let r = c.before.before.le-i32-at2 in
-    casts r.result (record { sfits = r.type-inv }) c.if6.false
+    casts r.result (record { sfits = r.type_inv }) c.if6.false
 
 returns-6 : tie.Need-returns-6
 returns-6 c =
     let p = c.before.before.before.before.before.le-i32-at in
     let n = c.before.before.le-i32-at2 in
-    rw (back w32 p.result p.type-inv, back w32 n.result n.type-inv, p.ensures, n.ensures) (sym (parts8 c))
+    rw (back w32 p.result p.type_inv, back w32 n.result n.type_inv, p.ensures, n.ensures) (sym (parts8 c))
 
 returns-7 : tie.Need-returns-7
 returns-7 c =
@@ -133,12 +133,12 @@ returns-7 c =
 cast-t15 : tie.Need-overflow-cast-t15
 cast-t15 c =
     let r = c.before.before.le-i32-at in
-    casts r.result (record { sfits = r.type-inv }) c.if7.false
+    casts r.result (record { sfits = r.type_inv }) c.if7.false
 
 returns-8 : tie.Need-returns-8
 returns-8 c =
     let r = c.before.before.le-i32-at in
-    rw (back w32 r.result r.type-inv, r.ensures) (sym (points6 c))
+    rw (back w32 r.result r.type_inv, r.ensures) (sym (points6 c))
 
 pub read-counts-spec : {M : Type 1} → statement M
 read-counts-spec =

@@ -26,7 +26,7 @@ e1 c = e0 c.before
 number : (c : tie.After-le-i32-at) → to_z w32 (of_z w32 c.le-i32-at.result) ≡ le_i32 (number_at (e0 c).args.parts) (e0 c).args.s.now
 number c =
     let n = c.le-i32-at in
-    back w32 n.result n.type-inv ∙ (n.ensures ∙ ap (λ (at : ℕ). le_i32 at (e0 c).args.s.now) c.before.number-at.ensures)
+    back w32 n.result n.type_inv ∙ (n.ensures ∙ ap (λ (at : ℕ). le_i32 at (e0 c).args.s.now) c.before.number-at.ensures)
 
 told : (c : tie.After-judge-rest) (r : Walk) → c.judge-rest.result ≡ r → RestWalk (e1 c).args.parts (e1 c).args.z (e1 c).args.m (e1 c).args.s.now r
 told c r e = subst (λ (w : Walk). RestWalk (e1 c).args.parts (e1 c).args.z (e1 c).args.m (e1 c).args.s.now w) e c.judge-rest.ensures

@@ -31,7 +31,7 @@ plan-of c = c.before.plan.given.0.0
 named : (c : tie.After-le-i32-at) → taken_of (kind_at (to_z w32 (of_z w32 c.le-i32-at.result))) ≡ taken_in c.before.before.before.before.before.args.shp.now
 named c =
     let r = c.le-i32-at in
-    ap (λ (z : ℤ). taken_of (kind_at z)) (back w32 r.result r.type-inv ∙ r.ensures) ∙ in_header _
+    ap (λ (z : ℤ). taken_of (kind_at z)) (back w32 r.result r.type_inv ∙ r.ensures) ∙ in_header _
 
 known : (c : tie.After-known-told)
     → (taken_in c.before.before.before.before.before.before.before.before.before.args.shp.now ≡ some (taken_from (plan-of c)))

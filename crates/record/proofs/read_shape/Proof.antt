@@ -24,7 +24,7 @@ abbrev e1 : tie.After-le-i32-at → tie.Start
 e1 c = c.before.before.before.before.before.before.before.before.before
 
 code-back : (c : tie.After-le-i32-at) → to_z w32 (of_z w32 c.le-i32-at.result) ≡ code_in (e1 c).args.s.now
-code-back c = back w32 c.le-i32-at.result c.le-i32-at.type-inv ∙ c.le-i32-at.ensures
+code-back c = back w32 c.le-i32-at.result c.le-i32-at.type_inv ∙ c.le-i32-at.ensures
 
 returns : tie.Need-returns
 returns c =

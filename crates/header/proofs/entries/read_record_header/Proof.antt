@@ -18,7 +18,7 @@ returns-3 : tie.Need-returns-3
 returns-3 c =
     let a = c.before.be-i32-at in
     let b = c.be-i32-at2 in
-    both_whole record_header _ _ _ c.before.before.if2.false (back w32 a.result a.type-inv ∙ a.ensures) (back w32 b.result b.type-inv ∙ b.ensures)
+    both_whole record_header _ _ _ c.before.before.if2.false (back w32 a.result a.type_inv ∙ a.ensures) (back w32 b.result b.type_inv ∙ b.ensures)
 
 pub read-record-header-spec : {M : Type 1} → statement M
 read-record-header-spec =

@@ -16,7 +16,7 @@ returns c =
     let f = c.before.before.before.le-i32-at in
     let t = c.before.le-i32-at2 in
     rw (next_start a.follow (a.start + 4) a.s.now a.n c.before.before.if1.true)
-    (c.part_count.ensures ∙ ap₂ part_of (back w32 f.result f.type-inv ∙ f.ensures) (back w32 t.result t.type-inv ∙ t.ensures))
+    (c.part_count.ensures ∙ ap₂ part_of (back w32 f.result f.type_inv ∙ f.ensures) (back w32 t.result t.type_inv ∙ t.ensures))
 
 returns-2 : tie.Need-returns-2
 returns-2 c =
@@ -24,7 +24,7 @@ returns-2 c =
     let a = e.args in
     let f = c.before.before.le-i32-at in
     rw (last_end a.follow (a.start + 4) a.s.now a.n c.before.if1.false)
-    (c.part-count2.ensures ∙ ap₂ part_of (back w32 f.result f.type-inv ∙ f.ensures) (to_z-of_z w32 a.n e.ranges.n))
+    (c.part-count2.ensures ∙ ap₂ part_of (back w32 f.result f.type_inv ∙ f.ensures) (to_z-of_z w32 a.n e.ranges.n))
 
 pub part-at-spec : {M : Type 1} → statement M
 part-at-spec =

@@ -12,7 +12,7 @@ returns : tie.Need-returns
 returns c =
     let n = c.before.be-number in
     record {
-      value = ap (λ (z : ℤ). record { 0 = z }) (back w32 c.signed.result c.signed.type-inv ∙ (c.signed.ensures ∙ ap (to_z w32) n.ensures.0));
+      value = ap (λ (z : ℤ). record { 0 = z }) (back w32 c.signed.result c.signed.type_inv ∙ (c.signed.ensures ∙ ap (to_z w32) n.ensures.0));
       small = rw (← n.ensures.0) n.ensures.1;
     }
 

@@ -41,7 +41,7 @@ a5 c = a4 c.before.before.before
 -- ---- what is read and looked up
 
 code-back : (c : tie.After-le-i32-at) → to_z w32 (of_z w32 c.le-i32-at.result) ≡ code_in (a1 c).args.s.now
-code-back c = back w32 c.le-i32-at.result c.le-i32-at.type-inv ∙ c.le-i32-at.ensures
+code-back c = back w32 c.le-i32-at.result c.le-i32-at.type_inv ∙ c.le-i32-at.ensures
 
 looked : (c : tie.After-find-kind) → said_found c.find-kind.result ≡ kind_of (code_in (a1 c.before).args.s.now)
 looked c = c.find-kind.ensures ∙ ap kind_of (code-back c.before)

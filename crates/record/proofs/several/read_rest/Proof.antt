@@ -26,12 +26,12 @@ near c r e = body-offset _ _ _ _ _ _ _ _ _ (said_body r) (ap said_body (sym e) â
 add-t29 : tie.Need-overflow-add-t29
 add-t29 c =
     let r = c.before.before.before.before.before.before.before.before.before.before.before.before.before in
-    record { fits = omega (arith, near r (BodyIs.Short c.before.at.given.0.0 c.before.at.given.0.1.0) c.before.at.given.1, (e1 r).well-formed.1.1.1.1.0.1) }
+    record { fits = omega (arith, near r (BodyIs.Short c.before.at.given.0.0 c.before.at.given.0.1.0) c.before.at.given.1, (e1 r).well_formed.1.1.1.1.0.1) }
 
 add-t30 : tie.Need-overflow-add-t30
 add-t30 c =
     let r = c.before.before.before.before.before.before.before.before.before.before.before.before.before in
-    record { fits = omega (arith, near r (BodyIs.Size c.before.at2.given.0.0) c.before.at2.given.1, (e1 r).well-formed.1.1.1.1.0.1) }
+    record { fits = omega (arith, near r (BodyIs.Size c.before.at2.given.0.0) c.before.at2.given.1, (e1 r).well_formed.1.1.1.1.0.1) }
 
 returns : tie.Need-returns
 returns c =

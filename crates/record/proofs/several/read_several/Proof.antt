@@ -39,12 +39,12 @@ sized c r e = subst (λ (x : Sized). Sizes (e1 c.before.before.before.before).ar
 add-t18 : tie.Need-overflow-add-t18
 add-t18 c =
     let r = c.before.before.before in
-    record { fits = omega (arith, near r (CountsIs.Short c.before.at.given.0.0 c.before.at.given.0.1.0) c.before.at.given.1, (e1 r).well-formed.1.1.1.1.0.1) }
+    record { fits = omega (arith, near r (CountsIs.Short c.before.at.given.0.0 c.before.at.given.0.1.0) c.before.at.given.1, (e1 r).well_formed.1.1.1.1.0.1) }
 
 add-t19 : tie.Need-overflow-add-t19
 add-t19 c =
     let r = c.before.before.before in
-    record { fits = omega (arith, near r (CountsIs.Size c.before.at2.given.0.0) c.before.at2.given.1, (e1 r).well-formed.1.1.1.1.0.1) }
+    record { fits = omega (arith, near r (CountsIs.Size c.before.at2.given.0.0) c.before.at2.given.1, (e1 r).well_formed.1.1.1.1.0.1) }
 
 returns : tie.Need-returns
 returns c =
