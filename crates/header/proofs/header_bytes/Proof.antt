@@ -15,25 +15,25 @@ fits : (c : tie.Start) → SFits w32 c.args.h.shape_type
 fits c = search rules
 
 -- whether the kind is known, by what the lookup found
-kind_is : (c : tie.After-find-kind) (r : Found) → c.find-kind.result ≡ r → known c.before.before.args.h.shape_type ≡ is_given (said_found r)
-kind_is c r e = known_found _ _ (c.find-kind.ensures ∙ ap kind_of (to_z-of_z w32 _ (fits c.before.before))) r e
+kind_is : (c : tie.After-find_kind) (r : Found) → c.find_kind.result ≡ r → known c.args.h.shape_type ≡ is_given (said_found r)
+kind_is c r e = known_found _ _ (c.find_kind.ensures ∙ ap kind_of (to_z-of_z w32 _ (fits c.before.before))) r e
 
 -- the place is found by its type: a path to it would count what is read for the answer
-returns : tie.Need-returns
+returns : tie.Need-returns-in_default
 returns c =
-    let t : tie.After-enum-told2 = search rules in
-    let f = t.before.before in
-    let e = kind_is f _ t.enum-told2.given.1 in
+    let t : tie.In_default = search rules in
+    let f = t.before in
+    let e = kind_is f _ t.in_default.is in
     record { says = rw e (ap unknown (to_z-of_z w32 _ (fits f.before.before))); bytes = rw e }
 
-returns-2 : tie.Need-returns-2
+returns-2 : tie.Need-returns
 returns-2 c =
-    let f = c.before.before.before in
-    let e = kind_is f _ c.before.enum_told.given.1 in
-    rw c.whole-bytes.ensures (record { says = rw e; bytes = rw e })
+    let f = c.before.before in
+    let e = kind_is f _ c.in-Is.is in
+    rw c.whole_bytes.ensures (record { says = rw e; bytes = rw e })
 
-pub header-bytes-spec : {M : Type 1} → statement M
-header-bytes-spec =
+pub header_bytes_spec : {M : Type 1} → statement M
+header_bytes_spec =
     tie.close
     (tie.spec
     (λ c κs. search rules) (λ c. search rules) (λ c. search rules)

@@ -13,43 +13,43 @@ use Rattle.rings.proofs.close_points_if_not_already.Statement.{statement}
 use Rattle.rings.proofs.close_points_if_not_already.Tie as tie
 
 -- what was said of the run
-told : (c : tie.After-is-part-closed) (r : ClosedAnswer) → c.is-part-closed.result ≡ r → (let a = c.before.before.before.before.before.args in said_closed r ≡ closed_of a.xs.now a.ys.now a.n)
-told c r e = ap said_closed (sym e) ∙ c.is-part-closed.ensures
+told : (c : tie.After-is_part_closed) (r : ClosedAnswer) → c.is_part_closed.result ≡ r → (let a = c.args in said_closed r ≡ closed_of a.xs.now a.ys.now a.n)
+told c r e = ap said_closed (sym e) ∙ c.is_part_closed.ensures
 
-left_open : (c : tie.After-enum-told3) → (let a = c.before.before.before.before.before.before.before.args in said_closed Is.Open ≡ closed_of a.xs.now a.ys.now a.n)
-left_open c = told c.before.before Is.Open c.enum-told3.given.1
+left_open : (c : tie.In-Open) → (let a = c.args in said_closed Is.Open ≡ closed_of a.xs.now a.ys.now a.n)
+left_open c = told c.before Is.Open c.in-Open.is
 
 -- so it lies in both stores
-lies : (c : tie.Else3) → (let a = c.before.before.before.before.before.before.before.before.before.before.args in (a.n ≤ length a.xs.now) × (a.n ≤ length a.ys.now))
+lies : (c : tie.Else-ys-n) → (let a = c.args in (a.n ≤ length a.xs.now) × (a.n ≤ length a.ys.now))
 lies c =
     let e = left_open c.before.before.before in
     (in_x _ _ _ false e, in_y _ _ _ false e)
 
-returns : tie.Need-returns
-returns c = empty _ _ _ (left_open c.before) c.if1.true
+returns : tie.Need-returns-then-n-eq0
+returns c = empty _ _ _ (left_open c.before) c.if-n-eq0.true
 
-returns-2 : tie.Need-returns-2
-returns-2 c = no_room_x _ _ _ (left_open c.before.before) c.before.if1.false c.if2.true
+returns-2 : tie.Need-returns-then-xs-n
+returns-2 c = no_room_x _ _ _ (left_open c.before.before) c.if-n-eq0.false c.if-xs-n.true
 
-returns-3 : tie.Need-returns-3
+returns-3 : tie.Need-returns-then-ys-n
 returns-3 c =
     let d = c.before.before in
-    no_room_y _ _ _ (left_open d.before) d.if1.false c.before.if2.false c.if3.true
+    no_room_y _ _ _ (left_open d.before) d.if-n-eq0.false c.if-xs-n.false c.if-ys-n.true
 
-returns-4 : tie.Need-returns-4
-returns-4 c = past_store _ _ _ (told c.before.before Is.Tables c.enum_told.given.1)
+returns-4 : tie.Need-returns-in-Tables
+returns-4 c = past_store _ _ _ (told c.before Is.Tables c.in-Tables.is)
 
-returns-5 : tie.Need-returns-5
-returns-5 c = closed_stays _ _ _ (told c.before.before Is.Closed c.enum-told2.given.1)
+returns-5 : tie.Need-returns-in-Closed
+returns-5 c = closed_stays _ _ _ (told c.before Is.Closed c.in-Closed.is)
 
-returns-6 : tie.Need-returns-6
+returns-6 : tie.Need-returns-else-ys-n
 returns-6 c =
     let e = c.before.before in
     let d = e.before.before in
-    gets_first _ _ _ (left_open d.before) d.if1.false e.before.if2.false e.if3.false
+    gets_first _ _ _ (left_open d.before) d.if-n-eq0.false e.if-xs-n.false e.if-ys-n.false
 
-pub close-points-if-not-already-spec : {M : Type 1} → statement M
-close-points-if-not-already-spec =
+pub close_points_if_not_already_spec : {M : Type 1} → statement M
+close_points_if_not_already_spec =
     tie.close
     (tie.spec
     (λ c κs. search rules) (λ c. search rules) (λ c. search rules) (λ c. search rules) (λ c. search rules)

@@ -11,47 +11,47 @@ use Rattle.rings.proofs.PointLaws.{point_at, points_from, closed_at, none-closed
 use Rattle.rings.proofs.is_part_closed.Statement.{statement}
 use Rattle.rings.proofs.is_part_closed.Tie as tie
 
-returns : tie.Need-returns
+returns : tie.Need-returns-then-xs-n
 unfolding closed_of
 returns c =
-    let a = c.before.before.before.args in
-    past_x a.xs.now a.ys.now a.n closed c.if1.true
+    let a = c.args in
+    past_x a.xs.now a.ys.now a.n closed c.if-xs-n.true
 
-returns-2 : tie.Need-returns-2
+returns-2 : tie.Need-returns-then-ys-n
 unfolding closed_of
 returns-2 c =
-    let a = c.before.before.before.before.args in
-    past_y a.xs.now a.ys.now a.n closed c.before.if1.false c.if2.true
+    let a = c.args in
+    past_y a.xs.now a.ys.now a.n closed c.if-xs-n.false c.if-ys-n.true
 
 -- what is said of a run that lies in both stores
-within : (c : tie.Else2) (b : Bool) → (let a = c.before.before.before.before.args in closed (points_from a.xs.now a.ys.now 0 a.n) ≡ b → gives b ≡ closed_of a.xs.now a.ys.now a.n)
+within : (c : tie.Else-ys-n) (b : Bool) → (let a = c.args in closed (points_from a.xs.now a.ys.now 0 a.n) ≡ b → gives b ≡ closed_of a.xs.now a.ys.now a.n)
 unfolding closed_of
 within c b e =
-    let a = c.before.before.before.before.args in
-    of-run a.xs.now a.ys.now a.n closed c.before.if1.false b c.if2.false e
+    let a = c.args in
+    of-run a.xs.now a.ys.now a.n closed c.if-xs-n.false b c.if-ys-n.false e
 
-returns-3 : tie.Need-returns-3
-returns-3 c = within c.before false (none-closed _ _ _ c.if3.true)
+returns-3 : tie.Need-returns-then-n-eq0
+returns-3 c = within c.before false (none-closed _ _ _ c.if-n-eq0.true)
 
 -- and where it has a point: what the comparisons come to
-compared : (c : tie.Else3) (b : Bool) → (let a = c.before.before.before.before.before.args in equal (point_at a.xs.now a.ys.now 0) (point_at a.xs.now a.ys.now (a.n - 1)) ≡ b → gives b ≡ closed_of a.xs.now a.ys.now a.n)
-compared c b e = within c.before b (closed_at _ _ _ c.if3.false ∙ e)
+compared : (c : tie.Else-n-eq0) (b : Bool) → (let a = c.args in equal (point_at a.xs.now a.ys.now 0) (point_at a.xs.now a.ys.now (a.n - 1)) ≡ b → gives b ≡ closed_of a.xs.now a.ys.now a.n)
+compared c b e = within c.before b (closed_at _ _ _ c.if-n-eq0.false ∙ e)
 
-returns-4 : tie.Need-returns-4
+returns-4 : tie.Need-returns-then-same-2
 returns-4 c =
     let d = c.before.before.before.before in
-    compared d.before.before.before.before true (ap₂ ◌&&◌ (sym d.before.same.ensures ∙ d.if4.true) (sym c.before.same2.ensures ∙ c.if5.true))
+    compared d.before.before.before.before true (ap₂ ◌&&◌ (sym d.same.ensures ∙ d.if-same.true) (sym c.same-then-same.ensures ∙ c.if-same-2.true))
 
-returns-5 : tie.Need-returns-5
+returns-5 : tie.Need-returns-else-same-2
 returns-5 c =
     let d = c.before.before.before.before in
-    compared d.before.before.before.before false (ap₂ ◌&&◌ (sym d.before.same.ensures ∙ d.if4.true) (sym c.before.same2.ensures ∙ c.if5.false))
+    compared d.before.before.before.before false (ap₂ ◌&&◌ (sym d.same.ensures ∙ d.if-same.true) (sym c.same-then-same.ensures ∙ c.if-same-2.false))
 
-returns-6 : tie.Need-returns-6
-returns-6 c = compared c.before.before.before.before false (rw (← c.before.same.ensures, c.if4.false))
+returns-6 : tie.Need-returns-else-same
+returns-6 c = compared c.before.before.before.before false (rw (← c.same.ensures, c.if-same.false))
 
-pub is-part-closed-spec : {M : Type 1} → statement M
-is-part-closed-spec =
+pub is_part_closed_spec : {M : Type 1} → statement M
+is_part_closed_spec =
     tie.close
     (tie.spec
     returns

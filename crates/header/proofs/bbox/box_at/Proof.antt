@@ -5,10 +5,10 @@ use Rattle.header.proofs.bbox.box_at.Statement.{statement}
 use Rattle.header.proofs.bbox.box_at.Tie as tie
 
 returns : tie.Need-returns
-returns c = boxed _ _ _ _ c.before.read-doubles.ensures
+returns c = boxed _ _ _ _ c.read_doubles.ensures
 
-pub box-at-spec : {M : Type 1} → statement M
-box-at-spec =
+pub box_at_spec : {M : Type 1} → statement M
+box_at_spec =
     tie.close
     (tie.spec
     (λ c. search rules) (λ c κs. search rules) (λ c. search rules) (λ c. search rules) (λ c. search rules)

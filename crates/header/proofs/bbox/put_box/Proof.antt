@@ -4,7 +4,7 @@ use Rattle.header.proofs.bbox.put_box.Statement.{statement}
 use Rattle.header.proofs.bbox.put_box.Tie as tie
 
 returns : tie.Need-returns
-returns c = c.before.before.write-doubles.ensures
+returns c = c.write_doubles.ensures
 
-pub put-box-spec : {M : Type 1} → statement M
-put-box-spec = tie.close (tie.spec (λ c. search rules) (λ c κs. search rules) (λ c. search rules) returns)
+pub put_box_spec : {M : Type 1} → statement M
+put_box_spec = tie.close (tie.spec (λ c. search rules) (λ c κs. search rules) (λ c. search rules) returns)

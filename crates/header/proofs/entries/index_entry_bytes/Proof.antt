@@ -17,5 +17,5 @@ returns c =
     let a = c.before.before.before.before.before in
     both_written _ _ _ (first_fits a) (second_fits a) c.two_bytes.ensures
 
-pub index-entry-bytes-spec : {M : Type 1} → statement M
-index-entry-bytes-spec = tie.close (tie.spec (λ c κs. search rules) returns)
+pub index_entry_bytes_spec : {M : Type 1} → statement M
+index_entry_bytes_spec = tie.close (tie.spec (λ c κs. search rules) returns)

@@ -8,18 +8,18 @@ use Rattle.header.proofs.EntryLaws.{cut_first, cut_second, both_whole}
 use Rattle.header.proofs.entries.read_index_entry.Statement.{statement}
 use Rattle.header.proofs.entries.read_index_entry.Tie as tie
 
-returns : tie.Need-returns
-returns c = cut_first shape_index _ c.if1.true
+returns : tie.Need-returns-then-n-lt4
+returns c = cut_first shape_index _ c.if-n-lt4.true
 
-returns-2 : tie.Need-returns-2
-returns-2 c = cut_second shape_index _ c.before.if1.false c.if2.true
+returns-2 : tie.Need-returns-then-n-lt8
+returns-2 c = cut_second shape_index _ c.if-n-lt4.false c.if-n-lt8.true
 
-returns-3 : tie.Need-returns-3
+returns-3 : tie.Need-returns
 returns-3 c =
-    let a = c.before.be-i32-at in
-    let b = c.be-i32-at2 in
-    both_whole shape_index _ _ _ c.before.before.if2.false (back w32 a.result a.type_inv ∙ a.ensures) (back w32 b.result b.type_inv ∙ b.ensures)
+    let a = c.be_i32_at in
+    let b = c.be_i32_at-2 in
+    both_whole shape_index _ _ _ c.if-n-lt8.false (back w32 a.result a.type_inv ∙ a.ensures) (back w32 b.result b.type_inv ∙ b.ensures)
 
-pub read-index-entry-spec : {M : Type 1} → statement M
-read-index-entry-spec =
+pub read_index_entry_spec : {M : Type 1} → statement M
+read_index_entry_spec =
     tie.close (tie.spec returns returns-2 (λ c κs. search rules) (λ c κs. search rules) returns-3)

@@ -17,5 +17,5 @@ returns c =
     let a = c.before.before.before.before in
     both_written _ _ _ (first_fits a) (second_fits a) c.two_bytes.ensures
 
-pub record-header-bytes-spec : {M : Type 1} → statement M
-record-header-bytes-spec = tie.close (tie.spec (λ c κs. search rules) returns)
+pub record_header_bytes_spec : {M : Type 1} → statement M
+record_header_bytes_spec = tie.close (tie.spec (λ c κs. search rules) returns)

@@ -18,14 +18,14 @@ returns c =
     let q = c.before in
     let p = q.before.before.before in
     let a = p.before.before in
-    q.put-be-i322.ensures
+    q.put_be_i32-2.ensures
     ∙ (ap₂ (λ (l : List ℕ) (z : ℤ). sets l 4 (i32_be z))
-    (p.put-be-i32.ensures ∙ ap (λ (z : ℤ). sets (replicate 8 0) 0 (i32_be z)) (to_z-of_z w32 a.args.a a.ranges.a))
+    (p.put_be_i32.ensures ∙ ap (λ (z : ℤ). sets (replicate 8 0) 0 (i32_be z)) (to_z-of_z w32 a.args.a a.ranges.a))
     (to_z-of_z w32 a.args.b a.ranges.b)
     ∙ both_stored a.args.a a.args.b)
 
-pub two-bytes-spec : {M : Type 1} → statement M
-two-bytes-spec =
+pub two_bytes_spec : {M : Type 1} → statement M
+two_bytes_spec =
     tie.close
     (tie.spec
     (λ c. search rules) (λ c κs. search rules) (λ c. search rules) (λ c κs. search rules)
