@@ -3,13 +3,13 @@ use borrow.Author.Rules.{rules}
 use Rattle.boxes.proofs.at_start.Statement.{statement}
 use Rattle.boxes.proofs.at_start.Tie as tie
 
-returns : tie.Need-returns
+returns : tie.Need-returns-then-same
 returns c =
     let d = c.before.before.before in
-    rw (← d.before.double.ensures, ← c.before.double2.ensures, ← d.same.ensures, c.before.before.if1.true) c.same2.ensures
+    rw (← d.double.ensures, ← c.double-then-same.ensures, ← d.same.ensures, c.if-same.true) c.same-then-same.ensures
 
-returns-2 : tie.Need-returns-2
-returns-2 c = rw (← c.before.before.double.ensures, ← c.before.same.ensures, c.if1.false)
+returns-2 : tie.Need-returns-else-same
+returns-2 c = rw (← c.double.ensures, ← c.same.ensures, c.if-same.false)
 
-pub at-start-spec : {M : Type 1} → statement M
-at-start-spec = tie.close (tie.spec (λ c κs. search rules) (λ c κs. search rules) (λ c κs. search rules) (λ c κs. search rules) returns returns-2)
+pub at_start_spec : {M : Type 1} → statement M
+at_start_spec = tie.close (tie.spec (λ c κs. search rules) (λ c κs. search rules) (λ c κs. search rules) (λ c κs. search rules) returns returns-2)

@@ -5,11 +5,11 @@ use borrow.Author.Rules.{rules}
 use Rattle.boxes.proofs.f64_max.Statement.{statement}
 use Rattle.boxes.proofs.f64_max.Tie as tie
 
-returns : tie.Need-returns
-returns c = ap (λ (t : Bool). cond t c.before.before.args.a c.before.before.args.b) (sym c.if1.true ∙ c.before.below.ensures)
+returns : tie.Need-returns-then-below
+returns c = ap (λ (t : Bool). cond t c.args.a c.args.b) (sym c.if-below.true ∙ c.below.ensures)
 
-returns-2 : tie.Need-returns-2
-returns-2 c = ap (λ (t : Bool). cond t c.before.before.args.a c.before.before.args.b) (sym c.if1.false ∙ c.before.below.ensures)
+returns-2 : tie.Need-returns-else-below
+returns-2 c = ap (λ (t : Bool). cond t c.args.a c.args.b) (sym c.if-below.false ∙ c.below.ensures)
 
-pub f64-max-spec : {M : Type 1} → statement M
-f64-max-spec = tie.close (tie.spec (λ c κs. search rules) returns returns-2)
+pub f64_max_spec : {M : Type 1} → statement M
+f64_max_spec = tie.close (tie.spec (λ c κs. search rules) returns returns-2)

@@ -6,8 +6,8 @@ use Rattle.boxes.proofs.flat_box.Tie as tie
 returns : tie.Need-returns
 returns c = cc
 
-pub flat-box-spec : {M : Type 1} → statement M
-flat-box-spec =
+pub flat_box_spec : {M : Type 1} → statement M
+flat_box_spec =
     tie.close
     (tie.spec
     (λ c κs. search rules) (λ c κs. search rules) (λ c κs. search rules) (λ c κs. search rules)

@@ -7,14 +7,14 @@ returns : tie.Need-returns
 returns c =
     λ i.
     record {
-      xmin = c.before.before.before.before.before.before.before.f64-min.ensures i;
-      ymin = c.before.before.before.before.before.before.f64-min2.ensures i;
-      xmax = c.before.before.before.before.before.f64-max.ensures i;
-      ymax = c.before.before.before.before.f64-max2.ensures i;
-      zmin = c.before.before.before.f64-min3.ensures i;
-      zmax = c.before.before.f64-max3.ensures i;
-      mmin = c.before.f64-min4.ensures i;
-      mmax = c.f64-max4.ensures i;
+      xmin = c.f64_min.ensures i;
+      ymin = c.f64_min-2.ensures i;
+      xmax = c.f64_max.ensures i;
+      ymax = c.f64_max-2.ensures i;
+      zmin = c.f64_min-3.ensures i;
+      zmax = c.f64_max-3.ensures i;
+      mmin = c.f64_min-4.ensures i;
+      mmax = c.f64_max-4.ensures i;
     }
 
 pub grow_spec : {M : Type 1} → statement M

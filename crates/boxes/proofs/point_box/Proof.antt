@@ -6,8 +6,8 @@ use Rattle.boxes.proofs.point_box.Tie as tie
 returns : tie.Need-returns
 returns c = cc
 
-pub point-box-spec : {M : Type 1} → statement M
-point-box-spec =
+pub point_box_spec : {M : Type 1} → statement M
+point_box_spec =
     tie.close
     (tie.spec
     (λ c κs. search rules) (λ c κs. search rules) (λ c κs. search rules) (λ c κs. search rules)

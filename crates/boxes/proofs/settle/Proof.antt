@@ -6,10 +6,10 @@ use Rattle.boxes.proofs.settle.Tie as tie
 
 returns : tie.Need-returns
 returns c = let p = c.before.before.before in
-    settled_is _ _ _ _ _ _ _ p.before.before.at_start.ensures p.before.at-start2.ensures p.where-set.ensures c.before.before.where-set2.ensures c.before.where-set3.ensures c.where-set4.ensures
+    settled_is _ _ _ _ _ _ _ p.at_start-z.ensures p.at_start-m.ensures p.where_set.ensures c.where_set-2.ensures c.where_set-3.ensures c.where_set-4.ensures
 
-pub settle-spec : {M : Type 1} → statement M
-settle-spec =
+pub settle_spec : {M : Type 1} → statement M
+settle_spec =
     tie.close
     (tie.spec
     (λ c κs. search rules) (λ c κs. search rules) (λ c κs. search rules) (λ c κs. search rules) (λ c κs. search rules)

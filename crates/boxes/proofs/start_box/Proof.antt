@@ -6,5 +6,5 @@ use Rattle.boxes.proofs.start_box.Tie as tie
 returns : tie.Need-returns
 returns c = cc
 
-pub start-box-spec : {M : Type 1} → statement M
-start-box-spec = tie.close (tie.spec (λ c κs. search rules) (λ c κs. search rules) returns)
+pub start_box_spec : {M : Type 1} → statement M
+start_box_spec = tie.close (tie.spec (λ c κs. search rules) (λ c κs. search rules) returns)

@@ -4,8 +4,8 @@ use Rattle.boxes.proofs.BoxLaws.{zero_is}
 use Rattle.boxes.proofs.where_set.Statement.{statement}
 use Rattle.boxes.proofs.where_set.Tie as tie
 
-returns-2 : tie.Need-returns-2
-returns-2 c = rw c.if1.false zero_is
+returns-2 : tie.Need-returns-else-flag
+returns-2 c = rw c.if-flag.false zero_is
 
-pub where-set-spec : {M : Type 1} → statement M
-where-set-spec = tie.close (tie.spec (λ c. search rules) returns-2)
+pub where_set_spec : {M : Type 1} → statement M
+where_set_spec = tie.close (tie.spec (λ c. search rules) returns-2)
