@@ -9,30 +9,30 @@ use Rattle.layouts.proofs.JudgeLaws.{placed}
 use Rattle.layouts.proofs.write_body.Statement.{statement}
 use Rattle.layouts.proofs.write_body.Tie as tie
 
-abbrev e0 : tie.After-judge-body → tie.Start
+abbrev e0 : tie.After-judge_body → tie.Start
 e0 c = c.before.before.before.before.before.before.before
 
 -- what was judged of the tables, by the arm
-judged : (c : tie.After-judge-body) (r : LayoutAnswer) → c.judge-body.result ≡ r → said_layout r ≡ layout_of (e0 c).args.parts (e0 c).args.z (e0 c).args.m (e0 c).args.counts.now (e0 c).args.xs.now (e0 c).args.ys.now (e0 c).args.zs.now (e0 c).args.ms.now (length (e0 c).args.out.now)
-judged c r e = ap said_layout (sym e) ∙ c.judge-body.ensures
+judged : (c : tie.After-judge_body) (r : LayoutAnswer) → c.judge_body.result ≡ r → said_layout r ≡ layout_of (e0 c).args.parts (e0 c).args.z (e0 c).args.m (e0 c).args.counts.now (e0 c).args.xs.now (e0 c).args.ys.now (e0 c).args.zs.now (e0 c).args.ms.now (length (e0 c).args.out.now)
+judged c r e = ap said_layout (sym e) ∙ c.judge_body.ensures
 
-put-body-requires : tie.Need-put-body-requires
-put-body-requires c κs = placed _ _ _ _ _ _ _ _ _ _ (judged c.before.before.before.before (Written _) c.before.before.size2.given.1)
+put-body-requires : tie.Need-put_body-requires
+put-body-requires c κs = placed _ _ _ _ _ _ _ _ _ _ (judged c.before.before (Written _) c.in-Written.is)
 
-returns : tie.Need-returns
-returns c = record { says = judged c.before.before Tables c.enum_told.given.1; out_is = refl }
+returns : tie.Need-returns-in-Tables
+returns c = record { says = judged c.before Tables c.in-Tables.is; out_is = refl }
 
-returns-2 : tie.Need-returns-2
-returns-2 c = record { says = judged c.before.before Long c.enum-told2.given.1; out_is = refl }
+returns-2 : tie.Need-returns-in-Long
+returns-2 c = record { says = judged c.before Long c.in-Long.is; out_is = refl }
 
-returns-3 : tie.Need-returns-3
-returns-3 c = record { says = judged c.before.before.before (Room _) c.before.size.given.1; out_is = refl }
+returns-3 : tie.Need-returns-in-Room
+returns-3 c = record { says = judged c.before (Room _) c.in-Room.is; out_is = refl }
 
-returns-4 : tie.Need-returns-4
-returns-4 c = record { says = judged c.before.before.before.before.before.before.before (Written _) c.before.before.before.before.before.size2.given.1; out_is = c.before.before.put-body.ensures }
+returns-4 : tie.Need-returns-in-Written
+returns-4 c = record { says = judged c.before.before.before.before.before (Written _) c.in-Written.is; out_is = c.put_body.ensures }
 
-pub write-body-spec : {M : Type 1} → statement M
-write-body-spec =
+pub write_body_spec : {M : Type 1} → statement M
+write_body_spec =
     tie.close
     (tie.spec
     (λ c κs. search rules) (λ c. search rules) (λ c. search rules) (λ c. search rules) (λ c. search rules)

@@ -11,31 +11,30 @@ use Rattle.multipart.proofs.read_body.Tie as tie
 
 -- the start of the function, and what was said of the counts
 
-abbrev e1 : tie.After-read-counts → tie.Start
+abbrev e1 : tie.After-read_counts → tie.Start
 e1 c = c.before.before.before.before.before.before.before
 
-told : (c : tie.After-read-counts) (r : CountsAnswer) → c.read-counts.result ≡ r → said_counts r ≡ counts_of (e1 c).args.parts (e1 c).args.s.now
-told c r e = ap said_counts (sym e) ∙ c.read-counts.ensures
+told : (c : tie.After-read_counts) (r : CountsAnswer) → c.read_counts.result ≡ r → said_counts r ≡ counts_of (e1 c).args.parts (e1 c).args.s.now
+told c r e = ap said_counts (sym e) ∙ c.read_counts.ensures
 
-read-rest-requires : tie.Need-read-rest-requires
+read-rest-requires : tie.Need-read_rest-requires
 read-rest-requires c κs =
-    let k = c.before.before.before.before.before.before.p.given in
-    counted _ _ _ _ (told c.before.before.before.before.before.before.before.before (Is.Are k.0.0 k.0.1.0) k.1)
+    counted _ _ _ _ (told c.before.before.before.before.before.before (Is.Are c.in-Are.p c.in-Are.field-1) c.in-Are.is)
 
-returns : tie.Need-returns
+returns : tie.Need-returns-in-Short
 returns c =
-    let j = c.before.before.before in
+    let j = c.before in
     unread _ _ _ _ _ _ _ _ _ _ tt
-    (counts-refused (e1 j).args.parts (e1 j).args.z (e1 j).args.m (e1 j).args.s.now _ _ _ _ _ _ (counts_stop _ _ _ _ (told j (Is.Short c.before.at.given.0.0 c.before.at.given.0.1.0) c.before.at.given.1)))
+    (counts-refused (e1 j).args.parts (e1 j).args.z (e1 j).args.m (e1 j).args.s.now _ _ _ _ _ _ (counts_stop _ _ _ _ (told j (Is.Short c.in-Short.at c.in-Short.present) c.in-Short.is)))
 
-returns-2 : tie.Need-returns-2
+returns-2 : tie.Need-returns-in-Size
 returns-2 c =
-    let j = c.before.before.before in
+    let j = c.before in
     unread _ _ _ _ _ _ _ _ _ _ tt
-    (counts-refused (e1 j).args.parts (e1 j).args.z (e1 j).args.m (e1 j).args.s.now _ _ _ _ _ _ (counts_stop _ _ _ _ (told j (Is.Size c.before.at2.given.0.0) c.before.at2.given.1)))
+    (counts-refused (e1 j).args.parts (e1 j).args.z (e1 j).args.m (e1 j).args.s.now _ _ _ _ _ _ (counts_stop _ _ _ _ (told j (Is.Size c.in-Size.at) c.in-Size.is)))
 
-pub read-body-spec : {M : Type 1} → statement M
-read-body-spec =
+pub read_body_spec : {M : Type 1} → statement M
+read_body_spec =
     tie.close
     (tie.spec
     (λ c κs. search rules) (λ c. search rules) (λ c. search rules) (λ c. search rules) (λ c. search rules)

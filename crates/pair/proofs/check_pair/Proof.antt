@@ -15,10 +15,10 @@ use Rattle.pair.proofs.check_pair.Tie as tie
 
 returns : tie.Need-returns
 returns c =
-    let shp : List ℕ = c.before.before.before.args.shp.now in
-    let shx : List ℕ = c.before.before.before.args.shx.now in
-    let hs : AllBytes shp = all_bytes shp (λ i. (c.before.before.shared-slice-known.given i).fits) in
-    let hx : AllBytes shx = all_bytes shx (λ i. (c.before.shared-slice-known2.given i).fits) in
+    let shp : List ℕ = c.args.shp.now in
+    let shx : List ℕ = c.args.shx.now in
+    let hs : AllBytes shp = all_bytes shp (λ i. (c.shared_slice_known-1.given i).fits) in
+    let hx : AllBytes shx = all_bytes shx (λ i. (c.shared_slice_known-2-1.given i).fits) in
     let e = c.judge.ensures in
     record {
       by_rules = e;
@@ -26,5 +26,5 @@ returns c =
       follows = subst (λ (v : Said Counts). Says shp shx v) (sym e) (says shp shx hs hx);
     }
 
-pub check-pair-spec : {M : Type 1} → statement M
-check-pair-spec = tie.close (tie.spec (λ c κs. search rules) returns)
+pub check_pair_spec : {M : Type 1} → statement M
+check_pair_spec = tie.close (tie.spec (λ c κs. search rules) returns)

@@ -17,70 +17,70 @@ use Rattle.pair.proofs.VerdictLaws.{by_front, both_long, by-kind, by_back, by_re
 use Rattle.pair.proofs.judge.Statement.{statement}
 use Rattle.pair.proofs.judge.Tie as tie
 
-returns : tie.Need-returns
-returns c = by_front _ _ c.before.front-fault.result c.before.front-fault.ensures c.if1.true
+returns : tie.Need-returns-then-front-ne0
+returns c = by_front _ _ c.front_fault-front.result c.front_fault-front.ensures c.if-front-ne0.true
 
 -- P1 to P3 are met; and the plan is that of the kind that the rules take
-fine : (c : tie.Else1) → 0 ≡ front_fault c.before.before.before.before.args.shp.now c.before.before.before.before.args.shx.now
-fine c = sym c.if1.false ∙ c.before.front-fault.ensures
+fine : (c : tie.Else-front-ne0) → 0 ≡ front_fault c.args.shp.now c.args.shx.now
+fine c = sym c.if-front-ne0.false ∙ c.front_fault-front.ensures
 
-abbrev plan-of : tie.After-known-told → Plan
-plan-of c = c.before.plan.given.0.0
+abbrev plan-of : tie.In-Is → Plan
+plan-of c = c.in-Is.plan
 
 -- the kind that was looked up is the one that the header names
-named : (c : tie.After-le-i32-at) → taken_of (kind_at (to_z w32 (of_z w32 c.le-i32-at.result))) ≡ taken_in c.before.before.before.before.before.args.shp.now
+named : (c : tie.After-le_i32_at) → taken_of (kind_at (to_z w32 (of_z w32 c.le_i32_at.result))) ≡ taken_in c.args.shp.now
 named c =
-    let r = c.le-i32-at in
+    let r = c.le_i32_at in
     ap (λ (z : ℤ). taken_of (kind_at z)) (back w32 r.result r.type_inv ∙ r.ensures) ∙ in_header _
 
-known : (c : tie.After-known-told)
-    → (taken_in c.before.before.before.before.before.before.before.before.before.args.shp.now ≡ some (taken_from (plan-of c)))
+known : (c : tie.In-Is)
+    → (taken_in c.args.shp.now ≡ some (taken_from (plan-of c)))
     × (plan-of c ≡ plan_for (taken_from (plan-of c)))
 known c =
-    let q = one_taken _ (plan-of c) (sym c.before.before.before.plan-of.ensures ∙ c.before.plan.given.1) in
-    (sym (named c.before.before.before.before) ∙ q.0, q.1)
+    let q = one_taken _ (plan-of c) (sym c.plan_of.ensures ∙ c.in-Is.is) in
+    (sym (named c.before.before) ∙ q.0, q.1)
 
-le-i32-at-requires : tie.Need-le-i32-at-requires
+le-i32-at-requires : tie.Need-le_i32_at-requires
 le-i32-at-requires c κs = omega (arith, (both_long _ _ (fine c)).0)
 
-returns-2 : tie.Need-returns-2
+returns-2 : tie.Need-returns-in_default
 returns-2 c =
-    let l = c.before.before.before in
-    by-kind _ _ (fine l.before) (sym (named l) ∙ none-taken _ (sym c.before.before.plan-of.ensures ∙ c.enum_told.given.1))
+    let l = c.before.before in
+    by-kind _ _ (fine l.before) (sym (named l) ∙ none-taken _ (sym c.plan_of.ensures ∙ c.in_default.is))
 
-back-fault-requires : tie.Need-back-fault-requires
-back-fault-requires c κs = both_long _ _ (fine c.before.before.before.before.before)
+back-fault-requires : tie.Need-back_fault-back-requires
+back-fault-requires c κs = both_long _ _ (fine c.before.before.before)
 
-returns-3 : tie.Need-returns-3
+returns-3 : tie.Need-returns-then-back-ne0
 returns-3 c =
     let k = c.before.before in
-    by_back _ _ (fine k.before.before.before.before.before) (taken_from (plan-of k)) (known k).0 c.before.back-fault.result c.before.back-fault.ensures c.if2.true
+    by_back _ _ (fine k.before.before.before) (taken_from (plan-of k)) (known k).0 c.back_fault-back.result c.back_fault-back.ensures c.if-back-ne0.true
 
 -- Null is taken
-returns-4 : tie.Need-returns-4
-returns-4 c = absurd (null-is-taken (sym c.before.before.plan-of2.ensures ∙ c.enum-told2.given.1))
+returns-4 : tie.Need-returns-in_default-plan_of
+returns-4 c = absurd (null-is-taken (sym c.plan_of-2.ensures ∙ c.in_default-plan_of.is))
 
 walk-requires : tie.Need-walk-requires
 walk-requires c κs =
-    let k = c.before.before.before.before.before.before in
+    let k = c.before.before.before.before in
     let e = (known k).1 in
-    let l = both_long _ _ (fine k.before.before.before.before.before) in (
+    let l = both_long _ _ (fine k.before.before.before) in (
       e,
-      null_plan _ (sym c.before.before.before.plan-of2.ensures ∙ c.before.null.given.1),
+      null_plan _ (sym c.plan_of-2.ensures ∙ c.in-Is-plan_of.is),
       λ r. ap (λ (p : Plan). p.parts) e ∙ rings_parts _ (taken_from (plan-of k)) (known k).0 (sym (ap (λ (p : Plan). p.rings) e) ∙ r),
       l.0,
       l.1,
     )
 
-returns-5 : tie.Need-returns-5
+returns-5 : tie.Need-returns
 returns-5 c =
-    let n = c.before.before.before.before.before in
+    let n = c.before.before.before in
     let k = n.before.before in
     c.walk.ensures
-    ∙ by_records _ _ (fine k.before.before.before.before.before) (taken_from (plan-of k)) (known k).0 (sym n.if2.false ∙ n.before.back-fault.ensures)
+    ∙ by_records _ _ (fine k.before.before.before) (taken_from (plan-of k)) (known k).0 (sym n.if-back-ne0.false ∙ n.back_fault-back.ensures)
 
-pub judge-spec : {M : Type 1} → statement M
-judge-spec =
+pub judge_spec : {M : Type 1} → statement M
+judge_spec =
     tie.close
     (tie.spec
     (λ c κs. search rules)

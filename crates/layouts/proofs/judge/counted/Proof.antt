@@ -4,11 +4,11 @@ use borrow.Author.Rules.{rules}
 use Rattle.layouts.proofs.judge.counted.Statement.{statement}
 use Rattle.layouts.proofs.judge.counted.Tie as tie
 
-returns : tie.Need-returns
-returns c = rw c.before.if1.true c.sums-to.ensures
+returns : tie.Need-returns-then-parts
+returns c = rw c.if-parts.true c.sums_to.ensures
 
-returns-2 : tie.Need-returns-2
-returns-2 c = rw c.if1.false refl
+returns-2 : tie.Need-returns-else-parts
+returns-2 c = rw c.if-parts.false refl
 
 pub counted_spec : {M : Type 1} → statement M
 counted_spec = tie.close (tie.spec (λ c κs. search rules) returns returns-2)

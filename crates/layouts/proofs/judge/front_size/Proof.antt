@@ -4,11 +4,11 @@ use borrow.Author.Rules.{rules}
 use Rattle.layouts.proofs.judge.front_size.Statement.{statement}
 use Rattle.layouts.proofs.judge.front_size.Tie as tie
 
-returns : tie.Need-returns
-returns c = rw c.if1.true refl
+returns : tie.Need-returns-then-parts
+returns c = rw c.if-parts.true refl
 
-returns-2 : tie.Need-returns-2
-returns-2 c = rw c.if1.false refl
+returns-2 : tie.Need-returns-else-parts
+returns-2 c = rw c.if-parts.false refl
 
-pub front-size-spec : {M : Type 1} → statement M
-front-size-spec = tie.close (tie.spec (λ c. search rules) (λ c. search rules) returns returns-2)
+pub front_size_spec : {M : Type 1} → statement M
+front_size_spec = tie.close (tie.spec (λ c. search rules) (λ c. search rules) returns returns-2)

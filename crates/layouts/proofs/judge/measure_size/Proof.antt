@@ -3,11 +3,11 @@ use borrow.Author.Rules.{rules}
 use Rattle.layouts.proofs.judge.measure_size.Statement.{statement}
 use Rattle.layouts.proofs.judge.measure_size.Tie as tie
 
-returns : tie.Need-returns
-returns c = rw c.if1.true
+returns : tie.Need-returns-then-flag
+returns c = rw c.if-flag.true
 
-returns-2 : tie.Need-returns-2
-returns-2 c = rw c.if1.false
+returns-2 : tie.Need-returns-else-flag
+returns-2 c = rw c.if-flag.false
 
-pub measure-size-spec : {M : Type 1} → statement M
-measure-size-spec = tie.close (tie.spec (λ c. search rules) (λ c. search rules) returns returns-2)
+pub measure_size_spec : {M : Type 1} → statement M
+measure_size_spec = tie.close (tie.spec (λ c. search rules) (λ c. search rules) returns returns-2)

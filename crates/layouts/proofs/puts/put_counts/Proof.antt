@@ -7,46 +7,46 @@ use Rattle.layouts.proofs.BodyLaws.{counts-stored, number-stored, parts-front, f
 use Rattle.layouts.proofs.puts.put_counts.Statement.{statement}
 use Rattle.layouts.proofs.puts.put_counts.Tie as tie
 
-abbrev e1 : tie.Then1 → tie.Start
+abbrev e1 : tie.Then-parts → tie.Start
 e1 c = c.before.before.before
 
 -- what there is room for, with parts
-room : (c : tie.Then1) → 40 + 4 * length (e1 c).args.counts.now ≤ length (e1 c).args.out.now
-room c = omega (arith, (e1 c).requires.0, parts-front (e1 c).args.parts (length (e1 c).args.counts.now) c.if1.true)
+room : (c : tie.Then-parts) → 40 + 4 * length (e1 c).args.counts.now ≤ length (e1 c).args.out.now
+room c = omega (arith, (e1 c).requires.0, parts-front (e1 c).args.parts (length (e1 c).args.counts.now) c.if-parts.true)
 
-put-le-requires : tie.Need-put-le-requires
+put-le-requires : tie.Need-put_le-requires
 put-le-requires c κs = omega (arith, room c.before)
 
-put-le-requires-2 : tie.Need-put-le-requires-2
+put-le-requires-2 : tie.Need-put_le-requires-then-parts
 put-le-requires-2 c κs = omega (arith, room c.before.before.before.before.before)
 
-put-starts-requires : tie.Need-put-starts-requires
+put-starts-requires : tie.Need-put_starts-requires
 put-starts-requires c κs =
     let t = c.before.before.before.before.before.before.before.before.before in
-    (omega (arith, room t), (e1 t).requires.1 t.if1.true)
+    (omega (arith, room t), (e1 t).requires.1 t.if-parts.true)
 
-put-le-requires-3 : tie.Need-put-le-requires-3
+put-le-requires-3 : tie.Need-put_le-requires-else-parts
 put-le-requires-3 c κs =
-    let a = c.before.before.before.before.args in
+    let a = c.args in
     omega (arith, front-least a.parts (length a.counts.now))
 
-returns : tie.Need-returns
+returns : tie.Need-returns-then-parts
 returns c =
     let p = c.before.before in
     let q = p.before.before.before.before in
     let r = q.before.before.before.before in
-    counts-stored _ _ _ r.before.before.if1.true _ r.put-le.new.0 q.put-le2.new.0 p.put-starts.new.0
-    r.put-le.ensures
-    q.put-le2.ensures
-    p.put-starts.ensures
+    counts-stored _ _ _ r.if-parts.true _ r.put_le.new.out q.put_le-then-parts.new.out p.put_starts.new.out
+    r.put_le.ensures
+    q.put_le-then-parts.ensures
+    p.put_starts.ensures
 
-returns-2 : tie.Need-returns-2
+returns-2 : tie.Need-returns-else-parts
 returns-2 c =
     let p = c.before.before in
-    number-stored _ _ _ p.before.before.if1.false _ p.put-le3.new.0 p.put-le3.ensures
+    number-stored _ _ _ p.if-parts.false _ p.put_le-else-parts.new.out p.put_le-else-parts.ensures
 
-pub put-counts-spec : {M : Type 1} → statement M
-put-counts-spec =
+pub put_counts_spec : {M : Type 1} → statement M
+put_counts_spec =
     tie.close
     (tie.spec
     put-le-requires

@@ -7,31 +7,31 @@ use Rattle.layouts.proofs.BodyLaws.{measure_stored}
 use Rattle.layouts.proofs.puts.put_measure.Statement.{statement}
 use Rattle.layouts.proofs.puts.put_measure.Tie as tie
 
-abbrev e1 : tie.Then1 → tie.Start
+abbrev e1 : tie.Then-flag → tie.Start
 e1 c = c.before.before.before
 
 -- what there is room for, where the flag is set
-room : (c : tie.Then1) → (e1 c).args.at + (16 + 8 * length (e1 c).args.values.now) ≤ length (e1 c).args.out.now
-room c = rw c.if1.true at c.before.before.before.requires
+room : (c : tie.Then-flag) → (e1 c).args.at + (16 + 8 * length (e1 c).args.values.now) ≤ length (e1 c).args.out.now
+room c = rw c.if-flag.true at c.requires
 
-write-doubles-requires : tie.Need-write-doubles-requires
+write-doubles-requires : tie.Need-write_doubles-requires
 write-doubles-requires c κs = omega (arith, room c.before.before)
 
-write-doubles-requires-2 : tie.Need-write-doubles-requires-2
+write-doubles-requires-2 : tie.Need-write_doubles-requires-then-flag
 write-doubles-requires-2 c κs = omega (arith, room c.before.before.before.before.before.before)
 
-returns : tie.Need-returns
+returns : tie.Need-returns-then-flag
 returns c =
     let p = c.before.before in
     let q = p.before.before.before.before in
-    rw q.before.before.before.if1.true
-    (measure_stored _ _ _ _ q.write-doubles.new.0 p.write-doubles2.new.0 _ q.write-doubles.ensures p.write-doubles2.ensures)
+    rw q.if-flag.true
+    (measure_stored _ _ _ _ q.write_doubles.new.out p.write_doubles-then-flag.new.out _ q.write_doubles.ensures p.write_doubles-then-flag.ensures)
 
-returns-2 : tie.Need-returns-2
-returns-2 c = rw c.if1.false
+returns-2 : tie.Need-returns-else-flag
+returns-2 c = rw c.if-flag.false
 
-pub put-measure-spec : {M : Type 1} → statement M
-put-measure-spec =
+pub put_measure_spec : {M : Type 1} → statement M
+put_measure_spec =
     tie.close
     (tie.spec
     (λ c. search rules) (λ c. search rules)

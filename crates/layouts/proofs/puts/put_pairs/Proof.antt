@@ -12,39 +12,39 @@ use Rattle.layouts.proofs.Turns.{pairs_turn}
 use Rattle.layouts.proofs.puts.put_pairs.Statement.{statement}
 use Rattle.layouts.proofs.puts.put_pairs.Tie as tie
 
-abbrev invariant-loop : tie.invariant-loop
+abbrev invariant-loop : tie.invariant-loop-i
 invariant-loop out₀ at xs ys i₀ out i =
     (i ≤ length xs) × (length out ≡ length out₀) × (sets out (at + 16 * i) (pairs_bytes (drop i xs) (drop i ys)) ≡ sets out₀ at (pairs_bytes xs ys))
 
-abbrev decreases-loop : tie.decreases-loop
+abbrev decreases-loop : tie.decreases-loop-i
 decreases-loop out₀ at xs ys i₀ out i = length xs - i
 
-loop-holds : tie.Need-loop-init invariant-loop decreases-loop
+loop-holds : tie.Need-loop-i-init invariant-loop decreases-loop
 loop-holds c = (omega arith, refl, rw add-zero)
 
-loop-again : tie.Need-loop-preserved invariant-loop decreases-loop
+loop-again : tie.Need-loop-i-preserved invariant-loop decreases-loop
 loop-again c =
     let q = c.before.before in
     let p = q.before.before.before.before in
     let t = p.before.before.before.before.before in
-    let a = t.before.before.before.before.args in (
+    let a = t.args in (
       omega arith,
-      q.put-le-f642.auto.0 ∙ (p.put-le-f64.auto.0 ∙ t.loop.invariant.1),
-      pairs_turn t.loop.out p.put-le-f64.new.0 _ a.at t.loop.i a.xs.now a.ys.now nan nan (omega arith) (omega arith)
-          p.put-le-f64.ensures
-          q.put-le-f642.ensures
-          ∙ t.loop.invariant.2,
+      q.put_le_f64-in-loop-i.auto.out ∙ (p.put_le_f64.auto.out ∙ t.loop-i.invariant.1),
+      pairs_turn t.loop-i.out p.put_le_f64.new.out _ a.at t.loop-i.i a.xs.now a.ys.now nan nan (omega arith) (omega arith)
+          p.put_le_f64.ensures
+          q.put_le_f64-in-loop-i.ensures
+          ∙ t.loop-i.invariant.2,
     )
 
 returns : tie.Need-returns invariant-loop decreases-loop
 unfolding flatten
 returns c =
-    let l = c.before.loop in
-    let z : l.i ≡ length c.before.before.before.before.before.args.xs.now = omega arith in
+    let l = c.loop-i in
+    let z : l.i ≡ length c.args.xs.now = omega arith in
     rw (z, drop-length) at l.invariant.2
 
-pub put-pairs-spec : {M : Type 1} → statement M
-put-pairs-spec =
+pub put_pairs_spec : {M : Type 1} → statement M
+put_pairs_spec =
     tie.close
     (tie.spec
     invariant-loop

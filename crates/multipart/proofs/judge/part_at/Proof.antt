@@ -10,24 +10,24 @@ use Rattle.multipart.proofs.PartLaws.{next_start, last_end}
 use Rattle.multipart.proofs.judge.part_at.Statement.{statement}
 use Rattle.multipart.proofs.judge.part_at.Tie as tie
 
-returns : tie.Need-returns
+returns : tie.Need-returns-then-follow-gt0
 returns c =
-    let a = c.before.before.before.before.before.args in
-    let f = c.before.before.before.le-i32-at in
-    let t = c.before.le-i32-at2 in
-    rw (next_start a.follow (a.start + 4) a.s.now a.n c.before.before.if1.true)
+    let a = c.args in
+    let f = c.le_i32_at-from in
+    let t = c.le_i32_at-to in
+    rw (next_start a.follow (a.start + 4) a.s.now a.n c.if-follow-gt0.true)
     (c.part_count.ensures ∙ ap₂ part_of (back w32 f.result f.type_inv ∙ f.ensures) (back w32 t.result t.type_inv ∙ t.ensures))
 
-returns-2 : tie.Need-returns-2
+returns-2 : tie.Need-returns-else-follow-gt0
 returns-2 c =
     let e = c.before.before.before.before in
     let a = e.args in
-    let f = c.before.before.le-i32-at in
-    rw (last_end a.follow (a.start + 4) a.s.now a.n c.before.if1.false)
-    (c.part-count2.ensures ∙ ap₂ part_of (back w32 f.result f.type_inv ∙ f.ensures) (to_z-of_z w32 a.n e.ranges.n))
+    let f = c.le_i32_at-from in
+    rw (last_end a.follow (a.start + 4) a.s.now a.n c.if-follow-gt0.false)
+    (c.part_count-else-follow-gt0.ensures ∙ ap₂ part_of (back w32 f.result f.type_inv ∙ f.ensures) (to_z-of_z w32 a.n e.ranges.n))
 
-pub part-at-spec : {M : Type 1} → statement M
-part-at-spec =
+pub part_at_spec : {M : Type 1} → statement M
+part_at_spec =
     tie.close
     (tie.spec
     (λ c κs. search rules) (λ c. search rules) (λ c κs. search rules) (λ c κs. search rules) (λ c κs. search rules)

@@ -15,15 +15,15 @@ use Rattle.multipart.proofs.store.count_at.Statement.{statement}
 use Rattle.multipart.proofs.store.count_at.Tie as tie
 
 -- what was said of the part
-told : (c : tie.After-part-at) (r : PartAnswer) → c.part_at.result ≡ r → said_part r ≡ part_of (le_i32 c.before.before.args.start c.before.before.args.s.now) (end_of (starts_at c.before.before.args.follow (c.before.before.args.start + 4) c.before.before.args.s.now) c.before.before.args.n)
-told c r e = rw (← to_z-of_z w32 c.before.before.args.n c.before.before.ranges.n) (ap said_part (sym e) ∙ c.part_at.ensures)
+told : (c : tie.After-part_at) (r : PartAnswer) → c.part_at.result ≡ r → said_part r ≡ part_of (le_i32 c.args.start c.args.s.now) (end_of (starts_at c.args.follow (c.args.start + 4) c.args.s.now) c.args.n)
+told c r e = rw (← to_z-of_z w32 c.args.n c.ranges.n) (ap said_part (sym e) ∙ c.part_at.ensures)
 
-returns : tie.Need-returns
-returns c = sym (is-count _ _ _ (told c.before.before.before (Is.Count c.before.k.given.0.0) c.before.k.given.1)).1
+returns : tie.Need-returns-in-Count
+returns c = sym (is-count _ _ _ (told c.before (Is.Count c.in-Count.k) c.in-Count.is)).1
 
-returns-2 : tie.Need-returns-2
-returns-2 c = rw (no_count _ _ (told c.before.before Is.Size c.enum_told.given.1))
+returns-2 : tie.Need-returns-in-Size
+returns-2 c = rw (no_count _ _ (told c.before Is.Size c.in-Size.is))
 
-pub count-at-spec : {M : Type 1} → statement M
-count-at-spec =
+pub count_at_spec : {M : Type 1} → statement M
+count_at_spec =
     tie.close (tie.spec (λ c κs. search rules) (λ c. search rules) (λ c. search rules) returns returns-2)

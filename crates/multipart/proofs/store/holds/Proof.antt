@@ -2,11 +2,11 @@
 use Rattle.multipart.proofs.store.holds.Statement.{statement}
 use Rattle.multipart.proofs.store.holds.Tie as tie
 
-returns : tie.Need-returns
-returns c = rw c.if1.true
+returns : tie.Need-returns-then-used
+returns c = rw c.if-used.true
 
-returns-2 : tie.Need-returns-2
-returns-2 c = rw c.if1.false
+returns-2 : tie.Need-returns-else-used
+returns-2 c = rw c.if-used.false
 
-pub holds-spec : {M : Type 1} → statement M
-holds-spec = tie.close (tie.spec returns returns-2)
+pub holds_spec : {M : Type 1} → statement M
+holds_spec = tie.close (tie.spec returns returns-2)

@@ -16,11 +16,11 @@ by_test : (x : Float) (b : Bool) → lt (neg (of_bits binary64 0x4807_8287_f49c_
 unfolding raised
 by_test x b e = rw (← no-data, e)
 
-returns : tie.Need-returns
-returns c = by_test c.before.before.args.x true (sym c.before.below.ensures ∙ c.if1.true)
+returns : tie.Need-returns-then-below
+returns c = by_test c.args.x true (sym c.below.ensures ∙ c.if-below.true)
 
-returns-2 : tie.Need-returns-2
-returns-2 c = by_test c.before.before.args.x false (sym c.before.below.ensures ∙ c.if1.false)
+returns-2 : tie.Need-returns-else-below
+returns-2 c = by_test c.args.x false (sym c.below.ensures ∙ c.if-below.false)
 
-pub raise-spec : {M : Type 1} → statement M
-raise-spec = tie.close (tie.spec (λ c κs. search rules) returns returns-2)
+pub raise_spec : {M : Type 1} → statement M
+raise_spec = tie.close (tie.spec (λ c κs. search rules) returns returns-2)

@@ -15,7 +15,7 @@ use Rattle.multipart.proofs.StoreLaws.{counts_turn, counts_end}
 use Rattle.multipart.proofs.store.store_counts.Statement.{statement}
 use Rattle.multipart.proofs.store.store_counts.Tie as tie
 
-abbrev invariant-loop : tie.invariant-loop
+abbrev invariant-loop : tie.invariant-loop-left
 invariant-loop s parts p n counts₀ left₀ start₀ i₀ counts left start i =
     (40 + 4 * p ≤ length s)
     × (i + left ≡ p)
@@ -23,33 +23,33 @@ invariant-loop s parts p n counts₀ left₀ start₀ i₀ counts left start i =
     × (length counts ≡ length counts₀)
     × (sets counts i (map count_of (differences_from left start (to_z w32 n) s)) ≡ sets counts₀ 0 (map count_of (differences_of p (to_z w32 n) s)))
 
-abbrev decreases-loop : tie.decreases-loop
+abbrev decreases-loop : tie.decreases-loop-left
 decreases-loop s parts p n counts₀ left₀ start₀ i₀ counts left start i = left
 
-loop-holds : tie.Need-loop-init invariant-loop decreases-loop
-loop-holds c = (rw c.if1.true at c.before.before.before.requires.0, omega arith, omega arith, refl, refl)
+loop-holds : tie.Need-loop-left-init invariant-loop decreases-loop
+loop-holds c = (rw c.if-parts.true at c.requires.0, omega arith, omega arith, refl, refl)
 
-loop-again : tie.Need-loop-preserved invariant-loop decreases-loop
+loop-again : tie.Need-loop-left-preserved invariant-loop decreases-loop
 loop-again c =
-    let l = c.before.before.loop in (
+    let l = c.loop-left in (
       l.invariant.0,
       omega arith,
       omega arith,
       simp length-set l.invariant.3,
-      counts_turn _ _ _ _ _ _ _ c.before.loop-test.true c.count_at.ensures ∙ l.invariant.4,
+      counts_turn _ _ _ _ _ _ _ c.loop-left-test.true c.count_at-k.ensures ∙ l.invariant.4,
     )
 
-returns : tie.Need-returns invariant-loop decreases-loop
+returns : tie.Need-returns-after-loop-left invariant-loop decreases-loop
 returns c =
     let a = c.before.before.before.before.before in
-    let l = c.before.loop in
-    rw (c.before.before.if1.true, ← to_z-of_z w32 a.args.n a.ranges.n) (sym (counts_end l.counts l.i l.left l.start (to_z w32 (of_z w32 a.args.n)) a.args.s.now c.loop-test.false) ∙ l.invariant.4)
+    let l = c.loop-left in
+    rw (c.if-parts.true, ← to_z-of_z w32 a.args.n a.ranges.n) (sym (counts_end l.counts l.i l.left l.start (to_z w32 (of_z w32 a.args.n)) a.args.s.now c.loop-left-test.false) ∙ l.invariant.4)
 
-returns-2 : tie.Need-returns-2 invariant-loop decreases-loop
-returns-2 c = rw c.if1.false
+returns-2 : tie.Need-returns-else-parts invariant-loop decreases-loop
+returns-2 c = rw c.if-parts.false
 
-pub store-counts-spec : {M : Type 1} → statement M
-store-counts-spec =
+pub store_counts_spec : {M : Type 1} → statement M
+store_counts_spec =
     tie.close
     (tie.spec
     invariant-loop

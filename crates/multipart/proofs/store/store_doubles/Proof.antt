@@ -7,10 +7,10 @@ use Rattle.multipart.proofs.store.store_doubles.Tie as tie
 returns : tie.Need-returns
 returns c =
     let a = c.before.before.before.before.before.before in
-    front-back a.args.out.now _ a.args.k a.args.at a.args.s.now a.requires.1 c.before.before.read-doubles.ensures
+    front-back a.args.out.now _ a.args.k a.args.at a.args.s.now a.requires.1 c.read_doubles.ensures
 
-pub store-doubles-spec : {M : Type 1} → statement M
-store-doubles-spec =
+pub store_doubles_spec : {M : Type 1} → statement M
+store_doubles_spec =
     tie.close
     (tie.spec
     (λ c. search rules) (λ c. search rules) (λ c. search rules) (λ c κs. search rules) (λ c. search rules)

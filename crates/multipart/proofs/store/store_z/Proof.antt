@@ -4,18 +4,18 @@ use borrow.Author.Rules.{rules}
 use Rattle.multipart.proofs.store.store_z.Statement.{statement}
 use Rattle.multipart.proofs.store.store_z.Tie as tie
 
-store-doubles-requires : tie.Need-store-doubles-requires
+store-doubles-requires : tie.Need-store_doubles-requires
 store-doubles-requires c κs =
-    let p = c.before.before.before.before.requires in
-    let inside = rw c.before.if1.true at p.0 in
-    let room = rw c.before.if1.true at p.1 in
+    let p = c.requires in
+    let inside = rw c.if-z.true at p.0 in
+    let room = rw c.if-z.true at p.1 in
     omega arith
 
-returns : tie.Need-returns
-returns c = rw c.before.before.before.before.if1.true c.before.before.store-doubles.ensures
+returns : tie.Need-returns-then-z
+returns c = rw c.if-z.true c.store_doubles.ensures
 
-pub store-z-spec : {M : Type 1} → statement M
-store-z-spec =
+pub store_z_spec : {M : Type 1} → statement M
+store_z_spec =
     tie.close
     (tie.spec
     (λ c. search rules)

@@ -9,41 +9,41 @@ use Rattle.pair.proofs.heads.back_fault.Statement.{statement}
 use Rattle.pair.proofs.heads.back_fault.Tie as tie
 
 -- what each test that passed says
-fine5 : (c : tie.Else1) → length_right c.before.before.before.before.args.shp.now ≡ true
-fine5 c = sym c.before.length-right.ensures ∙ not-false _ c.if1.false
+fine5 : (c : tie.Else-not-length_right) → length_right c.args.shp.now ≡ true
+fine5 c = sym c.length_right.ensures ∙ c.if-not-length_right.false
 
-fine6 : (c : tie.Else2) → finites 8 36 c.before.before.before.before.before.before.args.shp.now ≡ true
-fine6 c = sym c.before.all_finite.ensures ∙ not-false _ c.if2.false
+fine6 : (c : tie.Else-not-all_finite) → finites 8 36 c.args.shp.now ≡ true
+fine6 c = sym c.all_finite.ensures ∙ c.if-not-all_finite.false
 
-fine7 : (c : tie.Else3) → P7 c.before.before.before.before.before.before.before.before.args.shp.now c.before.before.before.before.before.before.before.before.args.shx.now ≡ true
-fine7 c = sym c.before.headers-agree.ensures ∙ not-false _ c.if3.false
+fine7 : (c : tie.Else-not-headers_agree) → P7 c.args.shp.now c.args.shx.now ≡ true
+fine7 c = sym c.headers_agree.ensures ∙ c.if-not-headers_agree.false
 
-returns : tie.Need-returns
+returns : tie.Need-returns-then-not-length_right
 unfolding back_fault
-returns c = rw (sym c.before.length-right.ensures ∙ not-true _ c.if1.true)
+returns c = rw (sym c.length_right.ensures ∙ c.if-not-length_right.true)
 
-returns-2 : tie.Need-returns-2
+returns-2 : tie.Need-returns-then-not-all_finite
 unfolding back_fault
-returns-2 c = rw (fine5 c.before.before, sym c.before.all_finite.ensures ∙ not-true _ c.if2.true)
+returns-2 c = rw (fine5 c.before.before, sym c.all_finite.ensures ∙ c.if-not-all_finite.true)
 
-returns-3 : tie.Need-returns-3
+returns-3 : tie.Need-returns-then-not-headers_agree
 unfolding back_fault
-returns-3 c = rw (fine5 c.before.before.before.before, fine6 c.before.before, sym c.before.headers-agree.ensures ∙ not-true _ c.if3.true)
+returns-3 c = rw (fine5 c.before.before.before.before, fine6 c.before.before, sym c.headers_agree.ensures ∙ c.if-not-headers_agree.true)
 
-returns-4 : tie.Need-returns-4
+returns-4 : tie.Need-returns-then-not-index_sized
 unfolding back_fault
 returns-4 c =
     let d = c.before.before in
-    rw (fine5 d.before.before.before.before, fine6 d.before.before, fine7 d, sym c.before.index-sized.ensures ∙ not-true _ c.if4.true)
+    rw (fine5 d.before.before.before.before, fine6 d.before.before, fine7 d, sym c.index_sized.ensures ∙ c.if-not-index_sized.true)
 
-returns-5 : tie.Need-returns-5
+returns-5 : tie.Need-returns
 unfolding back_fault
 returns-5 c =
     let d = c.before.before in
-    rw (fine5 d.before.before.before.before, fine6 d.before.before, fine7 d, sym c.before.index-sized.ensures ∙ not-false _ c.if4.false)
+    rw (fine5 d.before.before.before.before, fine6 d.before.before, fine7 d, sym c.index_sized.ensures ∙ c.if-not-index_sized.false)
 
-pub back-fault-spec : {M : Type 1} → statement M
-back-fault-spec =
+pub back_fault_spec : {M : Type 1} → statement M
+back_fault_spec =
     tie.close
     (tie.spec
     (λ c κs. search rules)

@@ -5,11 +5,11 @@ use borrow.Author.Tests.{not-true, not-false}
 use Rattle.pair.proofs.heads.index_sized.Statement.{statement}
 use Rattle.pair.proofs.heads.index_sized.Tie as tie
 
-returns : tie.Need-returns
-returns c = rw (sym c.before.length-right.ensures ∙ not-true _ c.if1.true)
+returns : tie.Need-returns-then-not-length_right
+returns c = rw (sym c.length_right.ensures ∙ c.if-not-length_right.true)
 
-returns-2 : tie.Need-returns-2
-returns-2 c = rw (sym c.before.length-right.ensures ∙ not-false _ c.if1.false)
+returns-2 : tie.Need-returns
+returns-2 c = rw (sym c.length_right.ensures ∙ c.if-not-length_right.false)
 
-pub index-sized-spec : {M : Type 1} → statement M
-index-sized-spec = tie.close (tie.spec (λ c κs. search rules) returns (λ c. search rules) returns-2)
+pub index_sized_spec : {M : Type 1} → statement M
+index_sized_spec = tie.close (tie.spec (λ c κs. search rules) returns (λ c. search rules) returns-2)

@@ -13,53 +13,53 @@ use Rattle.pair.proofs.UnitLaws.{negative, whole, field-whole, field_count, unde
 use Rattle.pair.proofs.heads.inside.Statement.{statement}
 use Rattle.pair.proofs.heads.inside.Tie as tie
 
-fits : (c : tie.After-words-at) → SFits w32 c.words-at.result.0
+fits : (c : tie.After-words_at-words) → SFits w32 c.words_at-words.result.0
 fits c = search rules
 
 -- the words that the record at this place names
-words_are : (c : tie.After-words-at) → words_of (drop c.before.before.args.at c.before.before.args.shp.now) ≡ big_at (c.before.before.args.at + 4) c.before.before.args.shp.now
-words_are c = big-drop c.before.before.args.at c.before.before.args.shp.now 4
+words_are : (c : tie.After-words_at-words) → words_of (drop c.args.at c.args.shp.now) ≡ big_at (c.args.at + 4) c.args.shp.now
+words_are c = big-drop c.args.at c.args.shp.now 4
 
-held : (c : tie.Else1) → big_at (c.before.before.before.before.before.args.at + 4) c.before.before.before.before.before.args.shp.now < 2 ^ 31
-held c = let w = c.before.before.before in whole _ _ w.words-at.ensures (fits w) c.if1.false
+held : (c : tie.Else-words-lt0) → big_at (c.args.at + 4) c.args.shp.now < 2 ^ 31
+held c = let w = c.before.before.before in whole _ _ w.words_at-words.ensures (fits w) c.if-words-lt0.false
 
-some : (c : tie.Else2) → 2 ≤ big_at (c.before.before.before.before.before.before.before.before.args.at + 4) c.before.before.before.before.before.before.before.before.args.shp.now
+some : (c : tie.Else-words-lt2) → 2 ≤ big_at (c.args.at + 4) c.args.shp.now
 some c =
     let e = c.before.before.before in
     let w = e.before.before.before in
-    over _ _ w.words-at.ensures (fits w) (held e) 2 c.if2.false
+    over _ _ w.words_at-words.ensures (fits w) (held e) 2 c.if-words-lt2.false
 
-returns : tie.Need-returns
+returns : tie.Need-returns-then-words-lt0
 returns c =
     let w = c.before.before.before in
-    negative10 _ (rw (words_are w) (negative _ _ w.words-at.ensures (fits w) c.if1.true))
+    negative10 _ (rw (words_are w) (negative _ _ w.words_at-words.ensures (fits w) c.if-words-lt0.true))
 
-returns-2 : tie.Need-returns-2
+returns-2 : tie.Need-returns-then-words-lt2
 returns-2 c =
     let e = c.before.before.before in
     let w = e.before.before.before in
-    few10 _ (rw (words_are w) (held e)) (rw (words_are w) (under _ _ w.words-at.ensures (fits w) (held e) 2 c.if2.true))
+    few10 _ (rw (words_are w) (held e)) (rw (words_are w) (under _ _ w.words_at-words.ensures (fits w) (held e) 2 c.if-words-lt2.true))
 
-in-bytes-requires : tie.Need-in-bytes-requires
+in-bytes-requires : tie.Need-in_bytes-requires
 in-bytes-requires c κs =
     let e = c.before.before.before in
-    field-whole _ _ e.before.before.before.words-at.ensures (held e)
+    field-whole _ _ e.before.before.before.words_at-words.ensures (held e)
 
-add-result : tie.Need-overflow-add-result
+add-result : tie.Need-overflow_add-result
 add-result c =
     let e = c.before.before.before.before in
-    omega (arith, c.in_bytes.ensures, field_count _ _ e.before.before.before.words-at.ensures (held e), held e)
+    omega (arith, c.in_bytes.ensures, field_count _ _ e.words_at-words.ensures (held e), held e)
 
-returns-3 : tie.Need-returns-3
+returns-3 : tie.Need-returns
 returns-3 c =
     let d = c.before in
     let e = d.before.before.before in
     let w = e.before.before.before in
-    rw (c.in_bytes.ensures, field_count _ _ w.words-at.ensures (held e), ← words_are w, ← length-drop)
+    rw (c.in_bytes.ensures, field_count _ _ w.words_at-words.ensures (held e), ← words_are w, ← length-drop)
     (last10 _ (rw (words_are w) (held e)) (rw (words_are w) (some d)))
 
-pub inside-spec : {M : Type 1} → statement M
-inside-spec =
+pub inside_spec : {M : Type 1} → statement M
+inside_spec =
     tie.close
     (tie.spec
     (λ c. search rules) (λ c κs. search rules)

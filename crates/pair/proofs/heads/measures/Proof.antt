@@ -4,14 +4,14 @@ use borrow.Author.Rules.{rules}
 use Rattle.pair.proofs.heads.measures.Statement.{statement}
 use Rattle.pair.proofs.heads.measures.Tie as tie
 
-returns : tie.Need-returns
-returns c = rw (sym c.before.comes-to.ensures ∙ c.if1.true)
+returns : tie.Need-returns-then-comes_to
+returns c = rw (sym c.comes_to.ensures ∙ c.if-comes_to.true)
 
-returns-2 : tie.Need-returns-2
-returns-2 c = rw (sym c.before.before.before.comes-to.ensures ∙ c.before.before.if1.false) c.comes-to2.ensures
+returns-2 : tie.Need-returns
+returns-2 c = rw (sym c.comes_to.ensures ∙ c.if-comes_to.false) c.comes_to-2.ensures
 
-pub measures-spec : {M : Type 1} → statement M
-measures-spec =
+pub measures_spec : {M : Type 1} → statement M
+measures_spec =
     tie.close
     (tie.spec
     (λ c. search rules) (λ c. search rules) (λ c κs. search rules)

@@ -5,17 +5,17 @@ use borrow.Author.Tests.{eq-eqb, ne_eqb, not-true, not-false}
 use Rattle.pair.proofs.heads.starts_right.Statement.{statement}
 use Rattle.pair.proofs.heads.starts_right.Tie as tie
 
-returns : tie.Need-returns
-returns c = rw (← c.before.big.ensures.value, ne_eqb _ _ c.if1.true)
+returns : tie.Need-returns-then-big-ne9994
+returns c = rw (← c.big.ensures.value, ne_eqb _ _ c.if-big-ne9994.true)
 
-returns-2 : tie.Need-returns-2
-returns-2 c = rw (← c.before.before.before.big.ensures.value, eq-eqb _ _ c.before.before.if1.false, sym c.before.zero-bytes.ensures ∙ not-true _ c.if2.true)
+returns-2 : tie.Need-returns-then-not-zero_bytes
+returns-2 c = rw (← c.big.ensures.value, eq-eqb _ _ c.if-big-ne9994.false, sym c.zero_bytes.ensures ∙ c.if-not-zero_bytes.true)
 
-returns-3 : tie.Need-returns-3
-returns-3 c = rw (← c.before.before.before.before.big.ensures.value, eq-eqb _ _ c.before.before.before.if1.false, sym c.before.before.zero-bytes.ensures ∙ not-false _ c.before.if2.false, c.little.ensures.value)
+returns-3 : tie.Need-returns
+returns-3 c = rw (← c.big.ensures.value, eq-eqb _ _ c.if-big-ne9994.false, sym c.zero_bytes.ensures ∙ c.if-not-zero_bytes.false, c.little.ensures.value)
 
-pub starts-right-spec : {M : Type 1} → statement M
-starts-right-spec =
+pub starts_right_spec : {M : Type 1} → statement M
+starts_right_spec =
     tie.close
     (tie.spec
     (λ c κs. search rules)

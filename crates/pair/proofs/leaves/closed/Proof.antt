@@ -5,14 +5,14 @@ use borrow.Author.Rules.{rules}
 use Rattle.pair.proofs.leaves.closed.Statement.{statement}
 use Rattle.pair.proofs.leaves.closed.Tie as tie
 
-returns : tie.Need-returns
-returns c = ap₂ ◌&&◌ (sym c.before.if1.true ∙ c.before.before.same_at.ensures) c.same-at2.ensures
+returns : tie.Need-returns-then-same_at
+returns c = ap₂ ◌&&◌ (sym c.if-same_at.true ∙ c.same_at.ensures) c.same_at-then-same_at.ensures
 
-returns-2 : tie.Need-returns-2
-returns-2 c = ap₂ ◌&&◌ (sym c.if1.false ∙ c.before.same_at.ensures) refl
+returns-2 : tie.Need-returns
+returns-2 c = ap₂ ◌&&◌ (sym c.if-same_at.false ∙ c.same_at.ensures) refl
 
-pub closed-spec : {M : Type 1} → statement M
-closed-spec =
+pub closed_spec : {M : Type 1} → statement M
+closed_spec =
     tie.close
     (tie.spec
     (λ c. search rules) (λ c. search rules) (λ c. search rules) (λ c. search rules) (λ c. search rules)

@@ -12,7 +12,7 @@ use Rattle.pair.proofs.leaves.count.Tie as tie
 fits : (c : tie.Start) → SFits w32 c.args.words.0
 fits c = search rules
 
-cast-result : tie.Need-overflow-cast-result
+cast-result : tie.Need-overflow_cast-result
 cast-result c = let s = c.before.before in whole_casts s.args.words (fits s) s.requires
 
 returns : tie.Need-returns

@@ -16,16 +16,16 @@ fits c = search rules
 small : (c : tie.Start) → nat_abs c.args.words.0 < 2 ^ 31
 small c = (subst (λ (z : ℤ). SFits w32 z) c.requires (fits c)).sfits
 
-twice : (c : tie.After-struct-told) → to_z w64 (of_z w64 c.before.before.to-bytes.result.0) ≡ pos (2 * nat_abs c.before.before.before.args.words.0)
+twice : (c : tie.After-struct_told-1) → to_z w64 (of_z w64 c.to_bytes-bytes.result.0) ≡ pos (2 * nat_abs c.args.words.0)
 twice c =
     let s = c.before.before.before in
-    doubled _ _ (fits s) s.requires c.before.before.to-bytes.ensures
+    doubled _ _ (fits s) s.requires c.to_bytes-bytes.ensures
 
-cast-result : tie.Need-overflow-cast-result
+cast-result : tie.Need-overflow_cast-result
 cast-result c = rw (twice c) (tt, omega (arith, small c.before.before.before))
 
 returns : tie.Need-returns
 returns c = ap nat_abs (twice c)
 
-pub in-bytes-spec : {M : Type 1} → statement M
-in-bytes-spec = tie.close (tie.spec (λ c κs. search rules) cast-result returns)
+pub in_bytes_spec : {M : Type 1} → statement M
+in_bytes_spec = tie.close (tie.spec (λ c κs. search rules) cast-result returns)

@@ -7,7 +7,7 @@ use Rattle.pair.proofs.leaves.is_finite.Statement.{statement}
 use Rattle.pair.proofs.leaves.is_finite.Tie as tie
 
 returns : tie.Need-returns
-returns c = sym (finite-bits c.le-number.result) ∙ ap finite c.le-number.ensures.0
+returns c = sym (finite-bits c.le_number-bits.result) ∙ ap finite c.le_number-bits.ensures.0
 
-pub is-finite-spec : {M : Type 1} → statement M
-is-finite-spec = tie.close (tie.spec (λ c κs. search rules) returns)
+pub is_finite_spec : {M : Type 1} → statement M
+is_finite_spec = tie.close (tie.spec (λ c κs. search rules) returns)

@@ -6,7 +6,7 @@ use Rattle.pair.proofs.leaves.same_at.Statement.{statement}
 use Rattle.pair.proofs.leaves.same_at.Tie as tie
 
 returns : tie.Need-returns
-returns c = c.same_number.ensures ∙ ap₂ same_number c.before.before.le-number.ensures.0 c.before.le-number2.ensures.0
+returns c = c.same_number.ensures ∙ ap₂ same_number c.le_number.ensures.0 c.le_number-2.ensures.0
 
-pub same-at-spec : {M : Type 1} → statement M
-same-at-spec = tie.close (tie.spec (λ c κs. search rules) (λ c κs. search rules) (λ c κs. search rules) returns)
+pub same_at_spec : {M : Type 1} → statement M
+same_at_spec = tie.close (tie.spec (λ c κs. search rules) (λ c κs. search rules) (λ c κs. search rules) returns)

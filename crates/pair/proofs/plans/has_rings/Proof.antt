@@ -4,13 +4,13 @@ use borrow.Author.Tests.{ne_eqb}
 use Rattle.pair.proofs.plans.has_rings.Statement.{statement}
 use Rattle.pair.proofs.plans.has_rings.Tie as tie
 
-returns : tie.Need-returns
-returns c = ⊎_elim (λ e. rw e) (⊎_elim (λ e. rw e) (λ e. rw e)) c.match.keys1
+returns : tie.Need-returns-in-5
+returns c = ⊎_elim (λ e. rw e) (⊎_elim (λ e. rw e) (λ e. rw e)) c.in-5.is
 
-returns-2 : tie.Need-returns-2
+returns-2 : tie.Need-returns-in_default
 returns-2 c =
-    let n = c.match.rest.1 in
+    let n = c.in_default.in_default-own.rest.1 in
     rw (ne_eqb _ 5 (λ e. n (inl e)), ne_eqb _ 15 (λ e. n (inr (inl e))), ne_eqb _ 25 (λ e. n (inr (inr e))))
 
-pub has-rings-spec : {M : Type 1} → statement M
-has-rings-spec = tie.close (tie.spec returns returns-2)
+pub has_rings_spec : {M : Type 1} → statement M
+has_rings_spec = tie.close (tie.spec returns returns-2)

@@ -13,44 +13,44 @@ use Rattle.pair.proofs.plans.plan_of.Statement.{statement}
 use Rattle.pair.proofs.plans.plan_of.Tie as tie
 
 -- what the lookups of the code say
-looked : (c : tie.After-find-kind) → said_found c.find-kind.result ≡ kind_of c.before.args.code
-looked c = c.find-kind.ensures ∙ ap kind_of (to_z-of_z w32 _ c.before.ranges.code)
+looked : (c : tie.After-find_kind) → said_found c.find_kind.result ≡ kind_of c.args.code
+looked c = c.find_kind.ensures ∙ ap kind_of (to_z-of_z w32 _ c.ranges.code)
 
-kind_is : (c : tie.After-known-told) → kind_at c.before.before.before.before.args.code ≡ some c.before.kind.given.0.0
-kind_is c = kind_found _ _ (looked c.before.before.before) _ c.before.kind.given.1
+kind_is : (c : tie.In-Is) → kind_at c.args.code ≡ some c.in-Is.kind
+kind_is c = kind_found _ _ (looked c.before) _ c.in-Is.is
 
-measured : (c : tie.After-lengths-of) → said_content c.lengths-of.result ≡ content_of c.before.before.before.before.before.before.before.args.code
-measured c = c.lengths-of.ensures ∙ ap content_of (to_z-of_z w32 _ c.before.before.before.before.before.before.before.ranges.code)
+measured : (c : tie.After-lengths_of) → said_content c.lengths_of.result ≡ content_of c.args.code
+measured c = c.lengths_of.ensures ∙ ap content_of (to_z-of_z w32 _ c.ranges.code)
 
-returns : tie.Need-returns
-returns c = unknown c.before.before.before.args.code (none_found _ _ (looked c.before.before) _ c.enum_told.given.1)
+returns : tie.Need-returns-in_default
+returns c = unknown c.args.code (none_found _ _ (looked c.before) _ c.in_default.is)
 
-returns-2 : tie.Need-returns-2
+returns-2 : tie.Need-returns-in-Taken
 returns-2 c =
-    let d = c.before.before.before.before in
-    let l = d.before.before in
+    let d = c.before.before.before in
+    let l = d.before in
     let k = l.before.before.before in
-    is-taken k.before.before.before.before.args.code _ _ _ _ _ _ _ (kind_is k) (content_some _ _ (kind_is k) _ (measured l) _ d.lengths.given.1)
-    l.before.has-several.ensures
-    c.before.before.points-alone.ensures
-    c.before.front-words.ensures
-    l.before.before.has-rings.ensures
-    c.least-points.ensures
+    is-taken k.args.code _ _ _ _ _ _ _ (kind_is k) (content_some _ _ (kind_is k) _ (measured l) _ d.in-Taken.is)
+    l.has_several-several.ensures
+    c.points_alone.ensures
+    c.front_words.ensures
+    l.has_rings-rings.ensures
+    c.least_points.ensures
 
-returns-3 : tie.Need-returns-3
+returns-3 : tie.Need-returns-in-NotTaken
 returns-3 c =
-    let l = c.before.before in
+    let l = c.before in
     let k = l.before.before.before in
-    not_taken k.before.before.before.before.args.code _ (kind_is k) (content-none _ _ (kind_is k) _ (measured l) _ c.enum-told2.given.1)
+    not_taken k.args.code _ (kind_is k) (content-none _ _ (kind_is k) _ (measured l) _ c.in-NotTaken.is)
 
 -- a kind that was found is not unknown
-returns-4 : tie.Need-returns-4
+returns-4 : tie.Need-returns-in-Unknown
 returns-4 c =
-    let l = c.before.before in
-    absurd (content-known _ _ (kind_is l.before.before.before) _ (measured l) _ c.enum-told3.given.1)
+    let l = c.before in
+    absurd (content-known _ _ (kind_is l.before.before.before) _ (measured l) _ c.in-Unknown.is)
 
-pub plan-of-spec : {M : Type 1} → statement M
-plan-of-spec =
+pub plan_of_spec : {M : Type 1} → statement M
+plan_of_spec =
     tie.close
     (tie.spec
     (λ c κs. search rules) (λ c. search rules) (λ c. search rules)
