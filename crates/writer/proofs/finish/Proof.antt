@@ -16,11 +16,11 @@ use Rattle.writer.proofs.StateLaws.{Fine, fine, index_lt, number_natural}
 use Rattle.writer.proofs.finish.Statement.{statement}
 use Rattle.writer.proofs.finish.Tie as tie
 
-fine-is : (c : tie.Then1) → state_fine c.before.before.args.s ≡ true
-fine-is c = sym c.before.state-fine.ensures ∙ c.if1.true
+fine-is : (c : tie.Then-state_fine) → state_fine c.args.s ≡ true
+fine-is c = sym c.state_fine.ensures ∙ c.if-state_fine.true
 
-fine-at : (c : tie.Then1) → Fine c.before.before.args.s
-fine-at c = fine c.before.before.args.s (fine-is c)
+fine-at : (c : tie.Then-state_fine) → Fine c.args.s
+fine-at c = fine c.args.s (fine-is c)
 
 words-fit : (c : tie.Start) → SFits w32 c.args.s.words.0
 words-fit c = search rules
@@ -31,13 +31,13 @@ number_fits c = search rules
 kind_fits : (c : tie.Start) → SFits w32 c.args.s.kind
 kind_fits c = search rules
 
-index-words-requires : tie.Need-index-words-requires
+index-words-requires : tie.Need-index_words-requires
 index-words-requires c κs =
     let t = c.before.before.before.before.before.before in
     let a = t.before.before in
     rw (to_z-of_z w32 _ (number_fits a)) (index_lt a.args.s (fine-at t) (words-fit a).sfits)
 
-returns : tie.Need-returns
+returns : tie.Need-returns-then-state_fine
 unfolding shp_header shx_header
 returns c =
     let x = c.before.before in
@@ -46,17 +46,17 @@ returns c =
     let a = t.before.before in
     let f = fine-at t in
     let k = to_z-of_z w32 _ (kind_fits a) ∙ f.kind_is in
-    let b = p.before.before.before.settle.ensures in
+    let b = p.settle-bounds.ensures in
     let n = ap natural_of (to_z-of_z w32 _ (number_fits a)) ∙ number_natural a.args.s f in
-    let w = ap (λ (v : Words). v.0) x.before.before.index-words.ensures ∙ ap (λ (m : ℕ). pos (50 + 4 * (m - 1))) n in
+    let w = ap (λ (v : Words). v.0) x.index_words.ensures ∙ ap (λ (m : ℕ). pos (50 + 4 * (m - 1))) n in
     record {
       says = rw (fine-is t);
-      shp_is = rw (fine-is t) (header_is _ _ _ _ _ p.header-bytes.ensures _ _ _ f.words-is refl k b f.kind-known);
-      shx_is = rw (fine-is t) (header_is _ _ _ _ _ x.header-bytes2.ensures _ _ _ w refl k b f.kind-known);
+      shp_is = rw (fine-is t) (header_is _ _ _ _ _ p.header_bytes-shp.ensures _ _ _ f.words-is refl k b f.kind-known);
+      shx_is = rw (fine-is t) (header_is _ _ _ _ _ x.header_bytes-shx.ensures _ _ _ w refl k b f.kind-known);
     }
 
-returns-2 : tie.Need-returns-2
-returns-2 c = let e = sym c.before.state-fine.ensures ∙ c.if1.false in record { says = rw e; shp_is = rw e; shx_is = rw e }
+returns-2 : tie.Need-returns-else-state_fine
+returns-2 c = let e = sym c.state_fine.ensures ∙ c.if-state_fine.false in record { says = rw e; shp_is = rw e; shx_is = rw e }
 
 pub finish_spec : {M : Type 1} → statement M
 finish_spec =

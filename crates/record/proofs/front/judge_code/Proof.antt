@@ -15,36 +15,36 @@ code-back : (c : tie.Start) → to_z w32 (of_z w32 c.args.code) ≡ c.args.code
 code-back c = back w32 c.args.code c.ranges.code.sfits
 
 -- what the lookup of the code says
-looked : (c : tie.After-lengths-of) → said_content c.lengths-of.result ≡ content_of c.before.args.code
-looked c = c.lengths-of.ensures ∙ ap content_of (code-back c.before)
+looked : (c : tie.After-lengths_of) → said_content c.lengths_of.result ≡ content_of c.args.code
+looked c = c.lengths_of.ensures ∙ ap content_of (code-back c.before)
 
-returns : tie.Need-returns
+returns : tie.Need-returns-then-code-eq0
 returns c =
-    let k = c.before.before.before in
+    let k = c.before.before in
     let s = k.before in
-    let t = told-taken s.args.code _ (looked k) _ c.before.enum-told3.given.1 in
-    rw (code-back s) (wanted_null s.args.code t.0 t.1 (bits_same w32 s.args.code (pos 0) s.ranges.code zero-fits c.if1.true))
+    let t = told-taken s.args.code _ (looked k) _ c.in-Taken.is in
+    rw (code-back s) (wanted_null s.args.code t.0 t.1 (bits_same w32 s.args.code (pos 0) s.ranges.code zero-fits c.if-code-eq0.true))
 
-returns-2 : tie.Need-returns-2
+returns-2 : tie.Need-returns-in-Unknown
 returns-2 c =
-    let k = c.before.before in
+    let k = c.before in
     let s = k.before in
-    rw (code-back s) (wanted_unknown s.args.code (told_none s.args.code _ (looked k) _ c.enum_told.given.1))
+    rw (code-back s) (wanted_unknown s.args.code (told_none s.args.code _ (looked k) _ c.in-Unknown.is))
 
-returns-3 : tie.Need-returns-3
+returns-3 : tie.Need-returns-in-NotTaken
 returns-3 c =
-    let k = c.before.before in
+    let k = c.before in
     let s = k.before in
-    let t = told_not s.args.code _ (looked k) _ c.enum-told2.given.1 in
+    let t = told_not s.args.code _ (looked k) _ c.in-NotTaken.is in
     rw (code-back s) (wanted_not s.args.code t.0 t.1)
 
-returns-4 : tie.Need-returns-4
+returns-4 : tie.Need-returns-else-code-eq0
 returns-4 c =
-    let k = c.before.before.before in
+    let k = c.before.before in
     let s = k.before in
-    let t = told-taken s.args.code _ (looked k) _ c.before.enum-told3.given.1 in
-    wanted_well s.args.code t.0 t.1 (bits_differ w32 s.args.code (pos 0) c.if1.false)
+    let t = told-taken s.args.code _ (looked k) _ c.in-Taken.is in
+    wanted_well s.args.code t.0 t.1 (bits_differ w32 s.args.code (pos 0) c.if-code-eq0.false)
 
-pub judge-code-spec : {M : Type 1} → statement M
-judge-code-spec =
+pub judge_code_spec : {M : Type 1} → statement M
+judge_code_spec =
     tie.close (tie.spec (λ c κs. search rules) (λ c. search rules) (λ c. search rules) (λ c. search rules) returns returns-2 returns-3 returns-4)

@@ -23,34 +23,34 @@ use Rattle.record.proofs.front.judge_found.Tie as tie
 
 -- ---- the function's start, from each place
 
-abbrev a1 : tie.After-le-i32-at → tie.Start
+abbrev a1 : tie.After-le_i32_at-code → tie.Start
 a1 c = c.before.before.before
 
-abbrev a2 : tie.After-known-told → tie.Start
-a2 c = a1 c.before.before.before.before
+abbrev a2 : tie.In-Is → tie.Start
+a2 c = a1 c.before.before
 
-abbrev a3 : tie.Else3 → tie.Start
+abbrev a3 : tie.Else-bytes-gt2147483651 → tie.Start
 a3 c = a2 c.before.before.before
 
-abbrev a4 : tie.After-judge-match → tie.Start
+abbrev a4 : tie.After-judge_match → tie.Start
 a4 c = a3 c.before
 
-abbrev a5 : tie.After-lengths-of → tie.Start
-a5 c = a4 c.before.before.before
+abbrev a5 : tie.After-lengths_of → tie.Start
+a5 c = a4 c.before.before
 
 -- ---- what is read and looked up
 
-code-back : (c : tie.After-le-i32-at) → to_z w32 (of_z w32 c.le-i32-at.result) ≡ code_in (a1 c).args.s.now
-code-back c = back w32 c.le-i32-at.result c.le-i32-at.type_inv ∙ c.le-i32-at.ensures
+code-back : (c : tie.After-le_i32_at-code) → to_z w32 (of_z w32 c.le_i32_at-code.result) ≡ code_in (a1 c).args.s.now
+code-back c = back w32 c.le_i32_at-code.result c.le_i32_at-code.type_inv ∙ c.le_i32_at-code.ensures
 
-looked : (c : tie.After-find-kind) → said_found c.find-kind.result ≡ kind_of (code_in (a1 c.before).args.s.now)
-looked c = c.find-kind.ensures ∙ ap kind_of (code-back c.before)
+looked : (c : tie.After-find_kind) → said_found c.find_kind.result ≡ kind_of (code_in (a1 c.before).args.s.now)
+looked c = c.find_kind.ensures ∙ ap kind_of (code-back c.before)
 
-is_known : (c : tie.After-known-told) → known (code_in (a2 c).args.s.now) ≡ true
-is_known c = known_found _ _ (looked c.before.before.before) _ c.before.kind.given.1
+is_known : (c : tie.In-Is) → known (code_in (a2 c).args.s.now) ≡ true
+is_known c = known_found _ _ (looked c.before) _ c.in-Is.is
 
-kind_here : (c : tie.After-known-told) → kind_at (code_in (a2 c).args.s.now) ≡ some c.before.kind.given.0.0
-kind_here c = kind_found _ _ (looked c.before.before.before) _ c.before.kind.given.1
+kind_here : (c : tie.In-Is) → kind_at (code_in (a2 c).args.s.now) ≡ some c.in-Is.kind
+kind_here c = kind_found _ _ (looked c.before) _ c.in-Is.is
 
 -- the size, which the code tests by its bits
 size_fits : (c : tie.Start) → SFits w64 c.args.size.0
@@ -59,86 +59,86 @@ size_fits c = search rules
 size_back : (c : tie.Start) → to_z w64 (of_z w64 c.args.size.0) ≡ c.args.size.0
 size_back c = to_z-of_z w64 c.args.size.0 (size_fits c)
 
-is_held : (c : tie.Else3) → Held (a3 c).args.size
+is_held : (c : tie.Else-bytes-gt2147483651) → Held (a3 c).args.size
 is_held c =
     let z = (a3 c).args.size.0 in
-    held z (rw (size_back (a3 c)) at c.before.if2.false) (rw (size_back (a3 c)) at c.if3.false)
+    held z (rw (size_back (a3 c)) at c.if-bytes-ltminus2147483644.false) (rw (size_back (a3 c)) at c.if-bytes-gt2147483651.false)
 
-judged : (c : tie.After-judge-match) (r : Judged) → c.judge-match.result ≡ r → Judges (mismatch_tests (a4 c).args.wanted (code_in (a4 c).args.s.now)) r
+judged : (c : tie.After-judge_match) (r : Judged) → c.judge_match.result ≡ r → Judges (mismatch_tests (a4 c).args.wanted (code_in (a4 c).args.s.now)) r
 judged c r e =
     subst (λ (x : Judged). Judges (mismatch_tests (a4 c).args.wanted (code_in (a4 c).args.s.now)) x) e
-    (subst (λ (z : ℤ). Judges (mismatch_tests (a4 c).args.wanted z) c.judge-match.result) (code-back c.before.before.before.before.before.before.before.before) c.judge-match.ensures)
+    (subst (λ (z : ℤ). Judges (mismatch_tests (a4 c).args.wanted z) c.judge_match.result) (code-back c.before.before.before.before.before.before) c.judge_match.ensures)
 
-content-found : (c : tie.After-lengths-of) → said_content c.lengths-of.result ≡ content_of (code_in (a5 c).args.s.now)
-content-found c = c.lengths-of.ensures ∙ ap content_of (code-back c.before.before.before.before.before.before.before.before.before.before.before)
+content-found : (c : tie.After-lengths_of) → said_content c.lengths_of.result ≡ content_of (code_in (a5 c).args.s.now)
+content-found c = c.lengths_of.ensures ∙ ap content_of (code-back c.before.before.before.before.before.before.before.before)
 
-returns : tie.Need-returns
+returns : tie.Need-returns-then-s-lt4
 returns c =
     let s = c.before.before in
-    cut s.args.wanted s.args.size s.args.s.now c.if1.true
+    cut s.args.wanted s.args.size s.args.s.now c.if-s-lt4.true
 
-returns-2 : tie.Need-returns-2
+returns-2 : tie.Need-returns-in_default
 returns-2 c =
-    let k = c.before.before in
+    let k = c.before in
     let s = a1 k.before in
     rw (code-back k.before)
-    (found_unknown s.args.wanted s.args.size s.args.s.now k.before.before.if1.false (known_found _ _ (looked k) _ c.enum_told.given.1))
+    (found_unknown s.args.wanted s.args.size s.args.s.now k.if-s-lt4.false (known_found _ _ (looked k) _ c.in_default.is))
 
-returns-3 : tie.Need-returns-3
+returns-3 : tie.Need-returns-then-bytes-ltminus2147483644
 returns-3 c =
     let k = c.before.before in
     let s = a2 k in
-    size-left s.args.wanted s.args.size s.args.s.now k.before.before.before.before.before.if1.false (is_known k)
-    (too_low s.args.size.0 (rw (size_back s) at c.if2.true))
+    size-left s.args.wanted s.args.size s.args.s.now k.if-s-lt4.false (is_known k)
+    (too_low s.args.size.0 (rw (size_back s) at c.if-bytes-ltminus2147483644.true))
 
-returns-4 : tie.Need-returns-4
+returns-4 : tie.Need-returns-then-bytes-gt2147483651
 returns-4 c =
     let k = c.before.before.before in
     let s = a2 k in
-    size-left s.args.wanted s.args.size s.args.s.now k.before.before.before.before.before.if1.false (is_known k)
-    (too_high s.args.size.0 (rw (size_back s) at c.if3.true))
+    size-left s.args.wanted s.args.size s.args.s.now k.if-s-lt4.false (is_known k)
+    (too_high s.args.size.0 (rw (size_back s) at c.if-bytes-gt2147483651.true))
 
-returns-5 : tie.Need-returns-5
+returns-5 : tie.Need-returns-in-Refused
 returns-5 c =
-    let j = c.before.before.before in
+    let j = c.before in
     let k = j.before.before.before.before in
     let s = a4 j in
-    found_other s.args.wanted s.args.size s.args.s.now k.before.before.before.before.before.if1.false (is_known k) (is_held j.before) _
-    (judged j (JudgedIs.Refused c.before.r.given.0.0) c.before.r.given.1)
+    found_other s.args.wanted s.args.size s.args.s.now k.if-s-lt4.false (is_known k) (is_held j.before) _
+    (judged j (JudgedIs.Refused c.in-Refused.r) c.in-Refused.is)
 
-returns-6 : tie.Need-returns-6
+returns-6 : tie.Need-returns-in-Taken
 returns-6 c =
-    let l = c.before.before.before in
-    let j = l.before.before.before in
+    let l = c.before in
+    let j = l.before.before in
     let k = j.before.before.before.before in
     let s = a4 j in
-    let t = taken_yes (code_in s.args.s.now) _ (kind_here k) _ (content-found l) _ c.before.lengths.given.1 in (
-      found_well s.args.wanted s.args.size s.args.s.now k.before.before.before.before.before.if1.false (is_known k) (is_held j.before)
-          (judged j JudgedIs.On l.before.enum-told2.given.1)
+    let t = taken_yes (code_in s.args.s.now) _ (kind_here k) _ (content-found l) _ c.in-Taken.is in (
+      found_well s.args.wanted s.args.size s.args.s.now k.if-s-lt4.false (is_known k) (is_held j.before)
+          (judged j JudgedIs.On l.in_default-judge_match.is)
           t.0,
-      record { long = k.before.before.before.before.before.if1.false; held = is_held j.before; kind_is = kind_here k; lengths_are = t.1 },
+      record { long = k.if-s-lt4.false; held = is_held j.before; kind_is = kind_here k; lengths_are = t.1 },
     )
 
-returns-7 : tie.Need-returns-7
+returns-7 : tie.Need-returns-in-NotTaken
 returns-7 c =
-    let l = c.before.before in
-    let j = l.before.before.before in
+    let l = c.before in
+    let j = l.before.before in
     let k = j.before.before.before.before in
     let s = a4 j in
-    rw (code-back k.before.before.before.before)
-    (found_not s.args.wanted s.args.size s.args.s.now k.before.before.before.before.before.if1.false (is_known k) (is_held j.before)
-    (judged j JudgedIs.On l.before.enum-told2.given.1)
-    (taken_no (code_in s.args.s.now) _ (kind_here k) _ (content-found l) _ c.enum-told3.given.1))
+    rw (code-back k.before.before)
+    (found_not s.args.wanted s.args.size s.args.s.now k.if-s-lt4.false (is_known k) (is_held j.before)
+    (judged j JudgedIs.On l.in_default-judge_match.is)
+    (taken_no (code_in s.args.s.now) _ (kind_here k) _ (content-found l) _ c.in-NotTaken.is))
 
 -- a kind that was found is not unknown
-returns-8 : tie.Need-returns-8
+returns-8 : tie.Need-returns-in-Unknown
 returns-8 c =
-    let l = c.before.before in
-    let k = l.before.before.before.before.before.before.before in
-    absurd (content-known _ _ (kind_here k) _ (content-found l) _ c.enum-told4.given.1)
+    let l = c.before in
+    let k = l.before.before.before.before.before.before in
+    absurd (content-known _ _ (kind_here k) _ (content-found l) _ c.in-Unknown.is)
 
-pub judge-found-spec : {M : Type 1} → statement M
-judge-found-spec =
+pub judge_found_spec : {M : Type 1} → statement M
+judge_found_spec =
     tie.close
     (tie.spec
     returns

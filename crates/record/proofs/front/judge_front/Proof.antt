@@ -9,23 +9,23 @@ use Rattle.record.proofs.FrontLaws.{front-refused, front_on}
 use Rattle.record.proofs.front.judge_front.Statement.{statement}
 use Rattle.record.proofs.front.judge_front.Tie as tie
 
-judged : (c : tie.After-judge-wanted) (r : Judged) → c.judge-wanted.result ≡ r → Judges (wanted_tests c.before.before.args.wanted) r
-judged c r e = subst (λ (x : Judged). Judges (wanted_tests c.before.before.args.wanted) x) e c.judge-wanted.ensures
+judged : (c : tie.After-judge_wanted) (r : Judged) → c.judge_wanted.result ≡ r → Judges (wanted_tests c.args.wanted) r
+judged c r e = subst (λ (x : Judged). Judges (wanted_tests c.args.wanted) x) e c.judge_wanted.ensures
 
-returns : tie.Need-returns
+returns : tie.Need-returns-in-Refused
 returns c =
-    let j = c.before.before.before in
+    let j = c.before in
     let s = j.before.before in
-    front-refused s.args.wanted s.args.size s.args.s.now _ (judged j (JudgedIs.Refused c.before.r.given.0.0) c.before.r.given.1)
+    front-refused s.args.wanted s.args.size s.args.s.now _ (judged j (JudgedIs.Refused c.in-Refused.r) c.in-Refused.is)
 
-returns-2 : tie.Need-returns-2
+returns-2 : tie.Need-returns-in-On
 returns-2 c =
-    let j = c.before.before.before in
+    let j = c.before.before in
     let s = j.before.before in
-    front_on s.args.wanted s.args.size s.args.s.now (judged j JudgedIs.On c.before.enum_told.given.1) c.judge-found.result c.judge-found.ensures
+    front_on s.args.wanted s.args.size s.args.s.now (judged j JudgedIs.On c.in-On.is) c.judge_found.result c.judge_found.ensures
 
-pub judge-front-spec : {M : Type 1} → statement M
-judge-front-spec =
+pub judge_front_spec : {M : Type 1} → statement M
+judge_front_spec =
     tie.close
     (tie.spec
     (λ c κs. search rules) (λ c. search rules) (λ c. search rules) (λ c κs. search rules)

@@ -3,14 +3,14 @@ use Rattle.format.proofs.NumberLaws.{zero_bits}
 use Rattle.record.proofs.points.double_if.Statement.{statement}
 use Rattle.record.proofs.points.double_if.Tie as tie
 
-le-f64-at-requires : tie.Need-le-f64-at-requires
-le-f64-at-requires c κs = rw c.if1.true at c.before.before.requires
+le-f64-at-requires : tie.Need-le_f64_at-requires
+le-f64-at-requires c κs = rw c.if-flag.true at c.requires
 
-returns : tie.Need-returns
-returns c = rw c.before.if1.true c.le-f64-at.ensures
+returns : tie.Need-returns-then-flag
+returns c = rw c.if-flag.true c.le_f64_at.ensures
 
-returns-2 : tie.Need-returns-2
-returns-2 c = rw c.if1.false zero_bits
+returns-2 : tie.Need-returns-else-flag
+returns-2 c = rw c.if-flag.false zero_bits
 
-pub double-if-spec : {M : Type 1} → statement M
-double-if-spec = tie.close (tie.spec le-f64-at-requires returns returns-2)
+pub double_if_spec : {M : Type 1} → statement M
+double_if_spec = tie.close (tie.spec le-f64-at-requires returns returns-2)

@@ -4,19 +4,19 @@ use Rattle.record.proofs.PointLaws.{z_inside, m_inside}
 use Rattle.record.proofs.points.point_at.Statement.{statement}
 use Rattle.record.proofs.points.point_at.Tie as tie
 
-double-if-requires : tie.Need-double-if-requires
-double-if-requires c κs = z_inside c.before.before.before.args.k _ c.before.before.before.requires
+double-if-requires : tie.Need-double_if-z-requires
+double-if-requires c κs = z_inside c.args.k _ c.requires
 
-double-if-requires-2 : tie.Need-double-if-requires-2
+double-if-requires-2 : tie.Need-double_if-m-requires
 double-if-requires-2 c κs =
     let s = c.before.before.before.before.before in
-    rw c.m-at.ensures (m_inside s.args.k _ s.requires)
+    rw c.m_at.ensures (m_inside s.args.k _ s.requires)
 
 returns : tie.Need-returns
-returns c = rw (c.before.before.before.before.le-f64-at.ensures, c.before.before.before.le-f64-at2.ensures, c.before.before.double-if.ensures, c.double-if2.ensures, c.before.m-at.ensures)
+returns c = rw (c.le_f64_at-x.ensures, c.le_f64_at-y.ensures, c.double_if-z.ensures, c.double_if-m.ensures, c.m_at.ensures)
 
-pub point-at-spec : {M : Type 1} → statement M
-point-at-spec =
+pub point_at_spec : {M : Type 1} → statement M
+point_at_spec =
     tie.close
     (tie.spec
     (λ c κs. search rules) (λ c κs. search rules)

@@ -5,17 +5,17 @@ use Rattle.record.proofs.SizeLaws.{not_words, words_size}
 use Rattle.record.proofs.sizes.has_words.Statement.{statement}
 use Rattle.record.proofs.sizes.has_words.Tie as tie
 
-returns : tie.Need-returns
+returns : tie.Need-returns-in-Is
 returns c =
-    let w = c.before.before in
-    let r = w.before.before in
-    c.comes-to.ensures ∙ words_size _ _ r.to-words.ensures _ w.words.given.1 _
+    let w = c.before in
+    let r = w.before in
+    c.comes_to.ensures ∙ words_size _ _ r.to_words.ensures _ w.in-Is.is _
 
-returns-2 : tie.Need-returns-2
+returns-2 : tie.Need-returns-in-Not
 returns-2 c =
-    let r = c.before.before in
-    not_words r.before.args.size r.before.requires _ r.to-words.ensures c.enum_told.given.1 _
+    let r = c.before in
+    not_words r.args.size r.requires _ r.to_words.ensures c.in-Not.is _
 
-pub has-words-spec : {M : Type 1} → statement M
-has-words-spec =
+pub has_words_spec : {M : Type 1} → statement M
+has_words_spec =
     tie.close (tie.spec (λ c κs. search rules) (λ c. search rules) (λ c κs. search rules) (λ c. search rules) returns returns-2)

@@ -14,7 +14,7 @@ use Rattle.writer.proofs.judge.in_memory.Tie as tie
 fits : (c : tie.Start) → SFits w64 c.args.size.0
 fits c = search rules
 
-cast-result : tie.Need-overflow-cast-result
+cast-result : tie.Need-overflow_cast-result
 cast-result c =
     let s = c.before.before in
     rw (to_z-of_z w64 _ (fits s))
@@ -23,5 +23,5 @@ cast-result c =
 returns : tie.Need-returns
 returns c = ap nat_abs (to_z-of_z w64 _ (fits c.before.before))
 
-pub in-memory-spec : {M : Type 1} → statement M
-in-memory-spec = tie.close (tie.spec cast-result returns)
+pub in_memory_spec : {M : Type 1} → statement M
+in_memory_spec = tie.close (tie.spec cast-result returns)

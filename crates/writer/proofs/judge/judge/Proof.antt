@@ -15,42 +15,42 @@ abbrev lent_of : tie.Start → BBoxZ → Lent
 lent_of c b = let a = c.args in lent a.code b a.counts.now a.xs.now a.ys.now a.zs.now a.ms.now
 
 -- what the judge of the kind said
-kind-fine : (c : tie.After-k) → let a = c.before.before.before.before.before.before.before.before.args in KindFine a.state a.code c.k.given.0.0 c.k.given.0.1.0
+kind-fine : (c : tie.In-Fine) → let a = c.args in KindFine a.state a.code c.in-Fine.k c.in-Fine.f
 kind-fine c =
-    let s = c.before.before.before.before.before.before.before.before in
-    subst (λ (z : ℤ). KindFine s.args.state z c.k.given.0.0 c.k.given.0.1.0) (to_z-of_z w32 _ s.ranges.code)
-    (subst (JudgesKind s.args.state _) c.k.given.1 c.before.before.judge-kind.ensures)
+    let s = c.before.before.before.before.before.before.before in
+    subst (λ (z : ℤ). KindFine s.args.state z c.in-Fine.k c.in-Fine.f) (to_z-of_z w32 _ s.ranges.code)
+    (subst (JudgesKind s.args.state _) c.in-Fine.is c.judge_kind.ensures)
 
-kind-refused : (c : tie.After-answer) → let a = c.before.before.before.before.before.before.before.before.args in KindRefused a.state a.code c.answer.given.0.0
+kind-refused : (c : tie.In-Refused) → let a = c.args in KindRefused a.state a.code c.in-Refused.answer
 kind-refused c =
-    let s = c.before.before.before.before.before.before.before.before in
-    subst (λ (z : ℤ). KindRefused s.args.state z c.answer.given.0.0) (to_z-of_z w32 _ s.ranges.code)
-    (subst (JudgesKind s.args.state _) c.answer.given.1 c.before.before.judge-kind.ensures)
+    let s = c.before.before.before.before.before.before.before in
+    subst (λ (z : ℤ). KindRefused s.args.state z c.in-Refused.answer) (to_z-of_z w32 _ s.ranges.code)
+    (subst (JudgesKind s.args.state _) c.in-Refused.is c.judge_kind.ensures)
 
-judge-shape-requires : tie.Need-judge-shape-requires
+judge-shape-requires : tie.Need-judge_shape-requires
 judge-shape-requires c κs =
-    let k = c.before in
-    let s = k.before.before.before.before.before.before.before.before in
+    let k = c in
+    let s = k.before.before.before.before.before.before.before in
     let h = kind-fine k in
     rw (to_z-of_z w32 _ s.ranges.code) (h.fine, (h.of_code, h.formula_is))
 
-returns : tie.Need-returns
+returns : tie.Need-returns-in-Refused
 returns c =
     λ b.
-    let k = c.before in
-    let s = k.before.before.before.before.before.before.before.before in
+    let k = c in
+    let s = k.before.before.before.before.before.before.before in
     refused-kind s.args.state (lent_of s b) s.args.out s.args.start s.args.entry _ (kind-refused k)
 
-returns-2 : tie.Need-returns-2
+returns-2 : tie.Need-returns-in-Fine
 returns-2 c =
     λ b.
-    let k = c.before.before in
-    let s = k.before.before.before.before.before.before.before.before in
-    judged s.args.state (lent_of s b) s.args.out s.args.start s.args.entry _ _ (kind-fine k) c.judge-shape.result
-    (subst (λ (z : ℤ). JudgesShape s.args.state (lent z b s.args.counts.now s.args.xs.now s.args.ys.now s.args.zs.now s.args.ms.now) s.args.out s.args.start s.args.entry c.judge-shape.result) (to_z-of_z w32 _ s.ranges.code) (c.judge-shape.ensures b))
+    let k = c.before in
+    let s = k.before.before.before.before.before.before.before in
+    judged s.args.state (lent_of s b) s.args.out s.args.start s.args.entry _ _ (kind-fine k) c.judge_shape.result
+    (subst (λ (z : ℤ). JudgesShape s.args.state (lent z b s.args.counts.now s.args.xs.now s.args.ys.now s.args.zs.now s.args.ms.now) s.args.out s.args.start s.args.entry c.judge_shape.result) (to_z-of_z w32 _ s.ranges.code) (c.judge_shape.ensures b))
 
-pub judge-spec : {M : Type 1} → statement M
-judge-spec =
+pub judge_spec : {M : Type 1} → statement M
+judge_spec =
     tie.close
     (tie.spec
     (λ c κs. search rules) (λ c. search rules) (λ c. search rules)

@@ -17,73 +17,73 @@ use Rattle.writer.proofs.judge.judge_kind.Tie as tie
 kind_fits : (c : tie.Start) → SFits w32 c.args.state.kind
 kind_fits c = search rules
 
-fine-is : (c : tie.Else1) → state_fine c.before.before.args.state ≡ true
-fine-is c = sym c.before.state-fine.ensures ∙ not-false _ c.if1.false
+fine-is : (c : tie.Else-not-state_fine) → state_fine c.args.state ≡ true
+fine-is c = sym c.state_fine.ensures ∙ c.if-not-state_fine.false
 
-looked : (c : tie.After-look-up) → look_up c.before.before.before.args.code ≡ c.look_up.result
-looked c = ap look_up (sym (to_z-of_z w32 _ c.before.before.before.ranges.code)) ∙ sym c.look_up.ensures
+looked : (c : tie.After-look_up) → look_up c.args.code ≡ c.look_up.result
+looked c = ap look_up (sym (to_z-of_z w32 _ c.ranges.code)) ∙ sym c.look_up.ensures
 
-returns : tie.Need-returns
-returns c = no_state _ _ (sym c.before.state-fine.ensures ∙ not-true _ c.if1.true)
+returns : tie.Need-returns-then-not-state_fine
+returns c = no_state _ _ (sym c.state_fine.ensures ∙ c.if-not-state_fine.true)
 
 -- the kind that the table has
-found : (c : tie.After-k) → look_up c.before.before.before.before.before.args.code ≡ Taken c.k.given.0.0 c.k.given.0.1.0
-found c = looked c.before.before ∙ c.k.given.1
+found : (c : tie.In-Taken) → look_up c.args.code ≡ Taken c.in-Taken.k c.in-Taken.f
+found c = looked c.before ∙ c.in-Taken.is
 
-returns-2 : tie.Need-returns-2
+returns-2 : tie.Need-returns-then-k-eq0
 returns-2 c =
     let t = c.before.before in
-    let k = t.before.before.before in
-    let l = k.before.before in
+    let k = t.before.before in
+    let l = k.before in
     let a = l.before.before.before in
-    rw (to_z-of_z w32 _ a.ranges.code) (no_null _ _ (fine-is l.before) _ _ (found k) c.if3.true (zero-yes a.args.state.kind (kind_fits a).sfits t.if2.true))
+    rw (to_z-of_z w32 _ a.ranges.code) (no_null _ _ (fine-is l.before) _ _ (found k) c.if-k-eq0.true (zero-yes a.args.state.kind (kind_fits a).sfits t.if-held-eq0.true))
 
-returns-3 : tie.Need-returns-3
+returns-3 : tie.Need-returns-then-held-eq0
 returns-3 c =
     let t = c.before.before in
-    let k = t.before.before.before in
-    let l = k.before.before in
+    let k = t.before.before in
+    let l = k.before in
     let a = l.before.before.before in
-    first_fine _ _ (fine-is l.before) _ _ (found k) c.if3.false (zero-yes a.args.state.kind (kind_fits a).sfits t.if2.true)
+    first_fine _ _ (fine-is l.before) _ _ (found k) c.if-k-eq0.false (zero-yes a.args.state.kind (kind_fits a).sfits t.if-held-eq0.true)
 
-returns-4 : tie.Need-returns-4
+returns-4 : tie.Need-returns-then-held-code
 returns-4 c =
     let n = c.before in
     let t = n.before.before in
-    let k = t.before.before.before in
-    let l = k.before.before in
+    let k = t.before.before in
+    let l = k.before in
     let a = l.before.before.before in
     rw (to_z-of_z w32 _ a.ranges.code, to_z-of_z w32 _ (kind_fits a))
-    (no_match _ _ (fine-is l.before) _ _ (found k) n.if4.true (zero_no a.args.state.kind t.if2.false) (bits_differ w32 a.args.state.kind a.args.code c.if5.true))
+    (no_match _ _ (fine-is l.before) _ _ (found k) n.if-k-ne0.true (zero_no a.args.state.kind t.if-held-eq0.false) (bits_differ w32 a.args.state.kind a.args.code c.if-held-code.true))
 
-returns-5 : tie.Need-returns-5
+returns-5 : tie.Need-returns-in-Unknown
 returns-5 c =
-    let l = c.before.before in
-    rw (to_z-of_z w32 _ l.before.before.before.ranges.code) (no_kind _ _ (fine-is l.before) (looked l ∙ c.enum_told.given.1))
+    let l = c.before in
+    rw (to_z-of_z w32 _ l.ranges.code) (no_kind _ _ (fine-is l.before) (looked l ∙ c.in-Unknown.is))
 
-returns-6 : tie.Need-returns-6
+returns-6 : tie.Need-returns-in-NotTaken
 returns-6 c =
-    let l = c.before.before in
-    rw (to_z-of_z w32 _ l.before.before.before.ranges.code) (no_taken _ _ (fine-is l.before) (looked l ∙ c.enum-told2.given.1))
+    let l = c.before in
+    rw (to_z-of_z w32 _ l.ranges.code) (no_taken _ _ (fine-is l.before) (looked l ∙ c.in-NotTaken.is))
 
-returns-7 : tie.Need-returns-7
+returns-7 : tie.Need-returns-else-held-code
 returns-7 c =
     let n = c.before in
     let t = n.before.before in
-    let k = t.before.before.before in
-    let l = k.before.before in
+    let k = t.before.before in
+    let l = k.before in
     let a = l.before.before.before in
-    same_fine _ _ (fine-is l.before) _ _ (found k) n.if4.true (zero_no a.args.state.kind t.if2.false) (bits_same w32 _ _ (kind_fits a) a.ranges.code c.if5.false)
+    same_fine _ _ (fine-is l.before) _ _ (found k) n.if-k-ne0.true (zero_no a.args.state.kind t.if-held-eq0.false) (bits_same w32 _ _ (kind_fits a) a.ranges.code c.if-held-code.false)
 
-returns-8 : tie.Need-returns-8
+returns-8 : tie.Need-returns-else-k-ne0
 returns-8 c =
     let t = c.before.before in
-    let k = t.before.before.before in
-    let l = k.before.before in
-    null-fine _ _ (fine-is l.before) _ _ (found k) c.if4.false (zero_no l.before.before.before.args.state.kind t.if2.false)
+    let k = t.before.before in
+    let l = k.before in
+    null-fine _ _ (fine-is l.before) _ _ (found k) c.if-k-ne0.false (zero_no l.args.state.kind t.if-held-eq0.false)
 
-pub judge-kind-spec : {M : Type 1} → statement M
-judge-kind-spec =
+pub judge_kind_spec : {M : Type 1} → statement M
+judge_kind_spec =
     tie.close
     (tie.spec
     (λ c κs. search rules)

@@ -15,17 +15,17 @@ fits : (c : tie.Start) → SFits w32 c.args.content.0
 fits c = search rules
 
 -- the content's bytes, out of the i64 that held them
-bytes_are : (c : tie.After-to-bytes) → let z = c.before.args.content.0 in to_z w64 (of_z w64 c.to-bytes.result.0) ≡ z +ℤ z
-bytes_are c = let z = c.before.args.content.0 in
-    ap (λ (b : Bytes). to_z w64 (of_z w64 b.0)) c.to-bytes.ensures ∙ to_z-of_z w64 (z +ℤ z) (doubled_fits z (fits c.before))
+bytes_are : (c : tie.After-to_bytes-bytes) → let z = c.args.content.0 in to_z w64 (of_z w64 c.to_bytes-bytes.result.0) ≡ z +ℤ z
+bytes_are c = let z = c.args.content.0 in
+    ap (λ (b : Bytes). to_z w64 (of_z w64 b.0)) c.to_bytes-bytes.ensures ∙ to_z-of_z w64 (z +ℤ z) (doubled_fits z (fits c.before))
 
-add-t3 : tie.Need-overflow-add-t3
-add-t3 c = let t = c.before.before in rw (bytes_are t) (eight_fits t.before.args.content.0 (fits t.before))
+add-t3 : tie.Need-overflow_add-result
+add-t3 c = let t = c.before.before in rw (bytes_are t) (eight_fits t.args.content.0 (fits t.before))
 
 returns : tie.Need-returns
 returns c = let t = c.before.before in
-    let z = t.before.args.content.0 in
+    let z = t.args.content.0 in
     rw (bytes_are t, to_z-of_z w64 (pos 8 +ℤ (z +ℤ z)) (eight_fits z (fits t.before)))
 
-pub record-bytes-spec : {M : Type 1} → statement M
-record-bytes-spec = tie.close (tie.spec (λ c κs. search rules) add-t3 returns)
+pub record_bytes_spec : {M : Type 1} → statement M
+record_bytes_spec = tie.close (tie.spec (λ c κs. search rules) add-t3 returns)

@@ -10,44 +10,44 @@ use Rattle.writer.proofs.LengthLaws.{sum_end, over, within}
 use Rattle.writer.proofs.judge.summed.Statement.{statement}
 use Rattle.writer.proofs.judge.summed.Tie as tie
 
-abbrev invariant-loop : tie.invariant-loop
+abbrev invariant-loop : tie.invariant-loop-i
 invariant-loop counts most total₀ i₀ total i = (i ≤ length counts) × (total ≤ most) × (total + sum (drop i counts) ≡ sum counts)
 
-abbrev decreases-loop : tie.decreases-loop
+abbrev decreases-loop : tie.decreases-loop-i
 decreases-loop counts most total₀ i₀ total i = length counts - i
 
-loop-holds : tie.Need-loop-init invariant-loop decreases-loop
+loop-holds : tie.Need-loop-i-init invariant-loop decreases-loop
 loop-holds c = (omega arith, omega arith, omega arith)
 
-cast-total : tie.Need-overflow-cast-total invariant-loop decreases-loop
-cast-total c = omega (arith, c.shared-slice-known.given c.before.before.loop.i)
+cast-total : tie.Need-overflow_cast-total invariant-loop decreases-loop
+cast-total c = omega (arith, c.shared_slice_known-1.given c.loop-i.i)
 
-add_total : tie.Need-overflow-add-total invariant-loop decreases-loop
-add_total c = omega (arith, c.shared-slice-known.given c.before.before.loop.i)
+add_total : tie.Need-overflow_add-total invariant-loop decreases-loop
+add_total c = omega (arith, c.shared_slice_known-1.given c.loop-i.i)
 
-returns : tie.Need-returns invariant-loop decreases-loop
+returns : tie.Need-returns-then-most-total invariant-loop decreases-loop
 returns c =
     let l = c.before.before.before in
-    let n = l.before.args.counts.now in
-    let h : l.before.args.most < sum n = omega (arith, sum_drop n l.loop.i c.before.before.loop-test.true, l.loop.invariant.2) in
-    over (sum n) l.before.args.most h
+    let n = l.args.counts.now in
+    let h : l.args.most < sum n = omega (arith, sum_drop n l.loop-i.i c.loop-i-test.true, l.loop-i.invariant.2) in
+    over (sum n) l.args.most h
 
-loop-again : tie.Need-loop-preserved invariant-loop decreases-loop
+loop-again : tie.Need-loop-i-preserved invariant-loop decreases-loop
 loop-again c =
     let l = c.before.before.before in
-    let n = l.before.args.counts.now in
-    (omega arith, c.if1.false, omega (arith, sum_drop n l.loop.i c.before.before.loop-test.true, l.loop.invariant.2))
+    let n = l.args.counts.now in
+    (omega arith, c.if-most-total.false, omega (arith, sum_drop n l.loop-i.i c.loop-i-test.true, l.loop-i.invariant.2))
 
-returns-2 : tie.Need-returns-2 invariant-loop decreases-loop
+returns-2 : tie.Need-returns invariant-loop decreases-loop
 returns-2 c =
     let l = c.before in
-    let n = l.before.args.counts.now in
-    let e : sum n ≡ l.loop.total = omega (arith, sum_end n l.loop.i c.loop-test.false, l.loop.invariant.2) in
-    let h : sum n ≤ l.before.args.most = omega arith in
-    sym e ∙ within (sum n) l.before.args.most h
+    let n = l.args.counts.now in
+    let e : sum n ≡ l.loop-i.total = omega (arith, sum_end n l.loop-i.i c.loop-i-test.false, l.loop-i.invariant.2) in
+    let h : sum n ≤ l.args.most = omega arith in
+    sym e ∙ within (sum n) l.args.most h
 
-pub summed-spec : {M : Type 1} → statement M
-summed-spec =
+pub summed_spec : {M : Type 1} → statement M
+summed_spec =
     tie.close
     (tie.spec
     invariant-loop

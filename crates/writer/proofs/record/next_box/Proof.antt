@@ -6,17 +6,17 @@ use Rattle.writer.proofs.JudgeLaws.{zero-yes, zero_no}
 use Rattle.writer.proofs.record.next_box.Statement.{statement}
 use Rattle.writer.proofs.record.next_box.Tie as tie
 
-returns : tie.Need-returns
-returns c = let s = c.before.before.before.before.before.before in rw (zero-yes s.args.code s.ranges.code.sfits c.before.if1.true)
+returns : tie.Need-returns-then-code-eq0
+returns c = let s = c.before.before.before.before.before.before in rw (zero-yes s.args.code s.ranges.code.sfits c.if-code-eq0.true)
 
-returns-2 : tie.Need-returns-2
+returns-2 : tie.Need-returns
 returns-2 c =
     let o = c.before.before in
     let e = o.before in
-    rw (zero_no e.before.before.before.before.before.args.code e.if1.false) (c.grow.ensures ∙ (λ i. grown (o.own-box.ensures i) (c.before.held-box.ensures i)))
+    rw (zero_no e.args.code e.if-code-eq0.false) (c.grow.ensures ∙ (λ i. grown (o.own_box-own.ensures i) (c.held_box.ensures i)))
 
-pub next-box-spec : {M : Type 1} → statement M
-next-box-spec =
+pub next_box_spec : {M : Type 1} → statement M
+next_box_spec =
     tie.close
     (tie.spec
     returns

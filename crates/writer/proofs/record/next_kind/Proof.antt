@@ -10,11 +10,11 @@ use Rattle.writer.proofs.record.next_kind.Tie as tie
 kind_fits : (c : tie.Start) → SFits w32 c.args.state.kind
 kind_fits c = search rules
 
-returns : tie.Need-returns
-returns c = let s = c.before in rw (zero_no s.args.code c.if1.true) (to_z-of_z w32 _ s.ranges.code)
+returns : tie.Need-returns-then-code-ne0
+returns c = let s = c.before in rw (zero_no s.args.code c.if-code-ne0.true) (to_z-of_z w32 _ s.ranges.code)
 
-returns-2 : tie.Need-returns-2
-returns-2 c = let s = c.before.before in rw (zero-yes s.args.code s.ranges.code.sfits c.before.if1.false) (to_z-of_z w32 _ (kind_fits s))
+returns-2 : tie.Need-returns-else-code-ne0
+returns-2 c = let s = c.before.before in rw (zero-yes s.args.code s.ranges.code.sfits c.if-code-ne0.false) (to_z-of_z w32 _ (kind_fits s))
 
-pub next-kind-spec : {M : Type 1} → statement M
-next-kind-spec = tie.close (tie.spec returns returns-2)
+pub next_kind_spec : {M : Type 1} → statement M
+next_kind_spec = tie.close (tie.spec returns returns-2)

@@ -4,11 +4,11 @@ use native.Mathlib.Omega.{arith}
 use Rattle.writer.proofs.record.next_points.Statement.{statement}
 use Rattle.writer.proofs.record.next_points.Tie as tie
 
-cast-result : tie.Need-overflow-cast-result
+cast-result : tie.Need-overflow_cast-result
 cast-result c = record { fits = omega (arith, c.requires) }
 
-add-result : tie.Need-overflow-add-result
-add-result c = record { fits = omega (arith, c.before.requires) }
+add-result : tie.Need-overflow_add-result
+add-result c = record { fits = omega (arith, c.requires) }
 
-pub next-points-spec : {M : Type 1} → statement M
-next-points-spec = tie.close (tie.spec cast-result add-result (λ c. refl))
+pub next_points_spec : {M : Type 1} → statement M
+next_points_spec = tie.close (tie.spec cast-result add-result (λ c. refl))

@@ -6,23 +6,23 @@ use Rattle.boxes.specs.Boxes.{flat}
 use Rattle.writer.proofs.record.own_box.Statement.{statement}
 use Rattle.writer.proofs.record.own_box.Tie as tie
 
-returns : tie.Need-returns
+returns : tie.Need-returns-then-several
 returns c =
     let s = c.before in
-    let h = s.before.has-several in
-    let t : h.result ≡ true = s.if1.true in
-    rw (sym h.ensures ∙ t) c.flat-box.ensures
+    let h = s.has_several-several in
+    let t : h.result ≡ true = s.if-several.true in
+    rw (sym h.ensures ∙ t) c.flat_box.ensures
 
-returns-2 : tie.Need-returns-2
+returns-2 : tie.Need-returns
 returns-2 c =
     let p = c.before in
     let s = p.before in
-    let h = s.before.has-several in
-    let t : h.result ≡ false = s.if1.false in
-    rw (sym h.ensures ∙ t) (c.flat-box2.ensures ∙ ap (flat s.before.before.before.before.before.before.args.k) p.point-box.ensures)
+    let h = s.has_several-several in
+    let t : h.result ≡ false = s.if-several.false in
+    rw (sym h.ensures ∙ t) (c.flat_box-2.ensures ∙ ap (flat s.args.k) p.point_box.ensures)
 
-pub own-box-spec : {M : Type 1} → statement M
-own-box-spec =
+pub own_box_spec : {M : Type 1} → statement M
+own_box_spec =
     tie.close
     (tie.spec
     (λ c κs. search rules) (λ c κs. search rules)

@@ -12,46 +12,46 @@ use Rattle.writer.proofs.BodyLaws.{null-body, point-room, point-body, several-bo
 use Rattle.writer.proofs.record.put_body.Statement.{statement}
 use Rattle.writer.proofs.record.put_body.Tie as tie
 
-abbrev start : tie.Else1 → tie.Start
+abbrev start : tie.Else-has_several → tie.Start
 start c = c.before.before.before.before.before.before.before.before
 
-not-several : (c : tie.Else1) → has_several (start c).args.k ≡ false
-not-several c = sym c.before.has-several.ensures ∙ c.if1.false
+not-several : (c : tie.Else-has_several) → has_several (start c).args.k ≡ false
+not-several c = sym c.has_several.ensures ∙ c.if-has_several.false
 
-returns : tie.Need-returns
+returns : tie.Need-returns-then-has_several
 returns c =
     let p = c.before.before in
     let i = p.before.before in
     let s = i.before.before.before.before.before.before.before.before in
     let a = s.args in
-    several-body a.k a.bbox a.counts.now a.xs.now a.ys.now a.zs.now a.ms.now a.out.now s.requires (sym i.before.has-several.ensures ∙ i.if1.true) _ _ p.write-body.ensures
+    several-body a.k a.bbox a.counts.now a.xs.now a.ys.now a.zs.now a.ms.now a.out.now s.requires (sym i.has_several.ensures ∙ i.if-has_several.true) _ _ p.write_body.ensures
 
-returns-2 : tie.Need-returns-2
+returns-2 : tie.Need-returns-then-k-eq0
 returns-2 c =
     let t = c.before.before in
     let a = (start t).args in
-    sym (ap (λ (l : List ℕ). sets a.out.now 0 l) (null-body a.k a.bbox a.counts.now a.xs.now a.ys.now a.zs.now a.ms.now (not-several t) (eq-eqb _ 0 c.if2.true)))
+    sym (ap (λ (l : List ℕ). sets a.out.now 0 l) (null-body a.k a.bbox a.counts.now a.xs.now a.ys.now a.zs.now a.ms.now (not-several t) (eq-eqb _ 0 c.if-k-eq0.true)))
 
-put-point-requires : tie.Need-put-point-requires
+put-point-requires : tie.Need-put_point-requires
 put-point-requires c κs =
     let n = c.before in
     let t = n.before.before in
     let s = start t in
     let a = s.args in
-    point-room a.k a.bbox a.counts.now a.xs.now a.ys.now a.zs.now a.ms.now (length a.out.now) s.pre (not-several t) (ne_eqb _ 0 n.if2.false)
+    point-room a.k a.bbox a.counts.now a.xs.now a.ys.now a.zs.now a.ms.now (length a.out.now) s.requires (not-several t) (ne_eqb _ 0 n.if-k-eq0.false)
 
-returns-3 : tie.Need-returns-3
+returns-3 : tie.Need-returns
 returns-3 c =
     let p = c.before.before in
     let n = p.before.before in
     let t = n.before.before in
     let s = start t in
     let a = s.args in
-    p.put-point.ensures
-    ∙ ap (λ (l : List ℕ). sets a.out.now 0 l) (point-body a.k a.bbox a.counts.now a.xs.now a.ys.now a.zs.now a.ms.now (length a.out.now) s.pre (not-several t) (ne_eqb _ 0 n.if2.false))
+    p.put_point.ensures
+    ∙ ap (λ (l : List ℕ). sets a.out.now 0 l) (point-body a.k a.bbox a.counts.now a.xs.now a.ys.now a.zs.now a.ms.now (length a.out.now) s.requires (not-several t) (ne_eqb _ 0 n.if-k-eq0.false))
 
-pub put-body-spec : {M : Type 1} → statement M
-put-body-spec =
+pub put_body_spec : {M : Type 1} → statement M
+put_body_spec =
     tie.close
     (tie.spec
     (λ c κs. search rules) (λ c κs. search rules) (λ c. search rules)

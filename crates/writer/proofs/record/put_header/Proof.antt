@@ -14,7 +14,7 @@ returns c =
     let q = c.before.before in
     let p = q.before.before.before.before.before in
     let s = p.before.before.before in
-    two_put s.args.out.now p.put-be-i32.new.0 _ s.args.number s.args.content.0 s.ranges.number (content-fits s) p.put-be-i32.ensures q.put-be-i322.ensures
+    two_put s.args.out.now p.put_be_i32.new.out _ s.args.number s.args.content.0 s.ranges.number (content-fits s) p.put_be_i32.ensures q.put_be_i32-2.ensures
 
-pub put-header-spec : {M : Type 1} → statement M
-put-header-spec = tie.close (tie.spec (λ c κs. search rules) (λ c κs. search rules) (λ c. search rules) returns)
+pub put_header_spec : {M : Type 1} → statement M
+put_header_spec = tie.close (tie.spec (λ c κs. search rules) (λ c κs. search rules) (λ c. search rules) returns)

@@ -12,14 +12,14 @@ returns c =
     let o = p.before.before.before.before in
     let s = o.before.before.before.before.before.before.before in
     let a = s.args in
-    point-stored a.out.now o.write-doubles.new.0 p.write-doubles2.new.0 q.write-doubles3.new.0 _ a.xs.now a.ys.now a.zs.now a.ms.now s.requires.0 s.requires.1
-    o.write-doubles.ensures
-    p.write-doubles2.ensures
-    q.write-doubles3.ensures
-    r.write-doubles4.ensures
+    point-stored a.out.now o.write_doubles.new.out p.write_doubles-2.new.out q.write_doubles-3.new.out _ a.xs.now a.ys.now a.zs.now a.ms.now s.requires.0 s.requires.1
+    o.write_doubles.ensures
+    p.write_doubles-2.ensures
+    q.write_doubles-3.ensures
+    r.write_doubles-4.ensures
 
-pub put-point-spec : {M : Type 1} → statement M
-put-point-spec =
+pub put_point_spec : {M : Type 1} → statement M
+put_point_spec =
     tie.close
     (tie.spec
     (λ c κs. search rules) (λ c κs. search rules) (λ c κs. search rules) (λ c. search rules) (λ c. search rules) (λ c κs. search rules)

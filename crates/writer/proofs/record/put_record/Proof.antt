@@ -18,13 +18,13 @@ use Rattle.writer.proofs.StoreLaws.{tail_stored, record_stored}
 use Rattle.writer.proofs.record.put_record.Statement.{statement}
 use Rattle.writer.proofs.record.put_record.Tie as tie
 
-put-le-i32-requires : tie.Need-put-le-i32-requires
+put-le-i32-requires : tie.Need-put_le_i32-requires
 put-le-i32-requires c κs = let s = c.before.before.before.before.before.before.before.before.before.before.before in omega (arith, words-least s.args.k s.args.counts.now s.args.xs.now, s.requires.1.0)
 
-sub-put-body : tie.Need-overflow-sub-put-body
+sub-put-body : tie.Need-slice_bounds-put_body-count
 sub-put-body c = let s = c.before.before.before.before.before.before.before.before.before.before.before.before.before.before in omega (arith, words-least s.args.k s.args.counts.now s.args.xs.now, s.requires.1.0)
 
-part-put-body-start : tie.Need-slice-bounds-put-body-start
+part-put-body-start : tie.Need-slice_bounds-put_body-start
 part-put-body-start c = let s = c.before.before.before.before.before.before.before.before.before.before.before.before.before.before in omega (arith, words-least s.args.k s.args.counts.now s.args.xs.now, s.requires.1.0)
 
 returns : tie.Need-returns
@@ -37,17 +37,17 @@ returns c =
     let shape = shape_by a.k a.bbox a.counts.now a.xs.now a.ys.now a.zs.now a.ms.now in
     let n = to_z-of_z w32 _ s.ranges.number in
     let k = to_z-of_z w32 _ s.ranges.code in
-    record_stored a.out.now p.put-header.new.0 q.put-le-i32.new.0 _ (of_z w32 a.number) (of_z w32 a.content.0) (of_z w32 a.code) (shape_bytes shape)
-    (p.put-header.ensures ∙ (λ i. sets a.out.now 0 (two_big (of_z w32 (n i)) (of_z w32 a.content.0))))
-    (q.put-le-i32.ensures ∙ ap (sets p.put-header.new.0 8) (ap i32_le k ∙ i32_le-is a.code))
-    (tail_stored 12 q.put-le-i32.new.0 r.put-body.new.0 (shape_bytes shape) r.put-body.ensures)
+    record_stored a.out.now p.put_header.new.out q.put_le_i32.new.out _ (of_z w32 a.number) (of_z w32 a.content.0) (of_z w32 a.code) (shape_bytes shape)
+    (p.put_header.ensures ∙ (λ i. sets a.out.now 0 (two_big (of_z w32 (n i)) (of_z w32 a.content.0))))
+    (q.put_le_i32.ensures ∙ ap (sets p.put_header.new.out 8) (ap i32_le k ∙ i32_le-is a.code))
+    (tail_stored 12 q.put_le_i32.new.out r.put_body.new.out (shape_bytes shape) r.put_body.ensures)
     ∙ ap (λ (l : List ℕ). sets a.out.now 0 l)
     (record_is a.k shape (of_z w32 a.number) (words_by a.k a.counts.now a.xs.now) a.content a.code s.requires.1.1.1
     (words_are a.k a.bbox a.counts.now a.xs.now a.ys.now a.zs.now a.ms.now s.requires.0.agrees)
     s.requires.1.1.0)
 
-pub put-record-spec : {M : Type 1} → statement M
-put-record-spec =
+pub put_record_spec : {M : Type 1} → statement M
+put_record_spec =
     tie.close
     (tie.spec
     (λ c κs. search rules)
