@@ -6,9 +6,9 @@ use Rattle.export.proofs.headers.mbenaruul_read_header.Statement.{statement}
 use Rattle.export.proofs.headers.mbenaruul_read_header.Tie as tie
 
 returns : tie.Need-returns
-returns c = c.header_read.ensures ∙ ap header_read c.before.read-header.ensures
+returns c = c.header_read.ensures ∙ ap header_read c.read_header.ensures
 
-pub mbenaruul-read-header-spec : {M : Type 1} → statement M
-mbenaruul-read-header-spec = tie.close (tie.spec
+pub mbenaruul_read_header_spec : {M : Type 1} → statement M
+mbenaruul_read_header_spec = tie.close (tie.spec
     (λ c κs. search rules) (λ c κs. search rules)
     returns)

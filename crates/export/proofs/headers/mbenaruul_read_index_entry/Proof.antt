@@ -6,10 +6,10 @@ use Rattle.export.proofs.headers.mbenaruul_read_index_entry.Statement.{statement
 use Rattle.export.proofs.headers.mbenaruul_read_index_entry.Tie as tie
 
 returns : tie.Need-returns
-returns c = c.index-entry-read.ensures ∙ ap index_entry_read c.before.read-index-entry.ensures
+returns c = c.index_entry_read.ensures ∙ ap index_entry_read c.read_index_entry.ensures
 
-pub mbenaruul-read-index-entry-spec : {M : Type 1} → statement M
-mbenaruul-read-index-entry-spec =
+pub mbenaruul_read_index_entry_spec : {M : Type 1} → statement M
+mbenaruul_read_index_entry_spec =
     tie.close (tie.spec
     (λ c κs. search rules) (λ c κs. search rules)
     returns)

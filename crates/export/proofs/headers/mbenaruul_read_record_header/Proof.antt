@@ -6,10 +6,10 @@ use Rattle.export.proofs.headers.mbenaruul_read_record_header.Statement.{stateme
 use Rattle.export.proofs.headers.mbenaruul_read_record_header.Tie as tie
 
 returns : tie.Need-returns
-returns c = c.record-header-read.ensures ∙ ap record_header_read c.before.read-record-header.ensures
+returns c = c.record_header_read.ensures ∙ ap record_header_read c.read_record_header.ensures
 
-pub mbenaruul-read-record-header-spec : {M : Type 1} → statement M
-mbenaruul-read-record-header-spec =
+pub mbenaruul_read_record_header_spec : {M : Type 1} → statement M
+mbenaruul_read_record_header_spec =
     tie.close (tie.spec
     (λ c κs. search rules) (λ c κs. search rules)
     returns)

@@ -14,14 +14,14 @@ stands-for (No rule number) = refl
 
 returns : tie.Need-returns
 returns c =
-    let v = c.before.check-pair in
-    let a = c.before.before.before.before.args in
+    let v = c.check_pair in
+    let a = c.args in
     record {
-      answer_is = c.pair-checked.ensures ∙ ap pair_checked v.ensures.by_rules;
-      means = subst (Checks a.shp.now a.shx.now) (sym (ap verdict_of c.pair-checked.ensures ∙ stands-for v.result)) v.ensures;
+      answer_is = c.pair_checked.ensures ∙ ap pair_checked v.ensures.by_rules;
+      means = subst (Checks a.shp.now a.shx.now) (sym (ap verdict_of c.pair_checked.ensures ∙ stands-for v.result)) v.ensures;
     }
 
-pub mbenaruul-check-pair-spec : {M : Type 1} → statement M
-mbenaruul-check-pair-spec = tie.close (tie.spec
+pub mbenaruul_check_pair_spec : {M : Type 1} → statement M
+mbenaruul_check_pair_spec = tie.close (tie.spec
     (λ c κs. search rules) (λ c κs. search rules)
     returns)

@@ -11,10 +11,10 @@ returns : tie.Need-returns
 returns c =
     let r = c.before.before.before.before.before.before.before.before.before.before.before in
     let a = r.before.before.before.before.before.before.before.before.before.before.before.before in
-    reads Any a.args.size a.args.content.now a.args.counts.now a.args.x.now a.args.y.now a.args.z.now a.args.m.now r.read-record.result _ _ _ _ _ _ c.record-read.ensures (rw (back w64 a.args.size a.ranges.size.sfits) at r.read-record.ensures)
+    reads Any a.args.size a.args.content.now a.args.counts.now a.args.x.now a.args.y.now a.args.z.now a.args.m.now r.read_record.result _ _ _ _ _ _ c.record_read.ensures (rw (back w64 a.args.size a.ranges.size.sfits) at r.read_record.ensures)
 
-pub mbenaruul-read-record-spec : {M : Type 1} → statement M
-mbenaruul-read-record-spec =
+pub mbenaruul_read_record_spec : {M : Type 1} → statement M
+mbenaruul_read_record_spec =
     tie.close
     (tie.spec
     (λ c κs. search rules) (λ c κs. search rules) (λ c. search rules) (λ c. search rules) (λ c. search rules)

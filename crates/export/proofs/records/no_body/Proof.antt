@@ -8,5 +8,5 @@ returns : tie.Need-returns
 unfolding of_bits of_int
 returns c = refl
 
-pub no-body-spec : {M : Type 1} → statement M
-no-body-spec = tie.close (tie.spec returns)
+pub no_body_spec : {M : Type 1} → statement M
+no_body_spec = tie.close (tie.spec returns)

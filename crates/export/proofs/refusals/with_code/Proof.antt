@@ -10,7 +10,7 @@ returns c =
     let a = c.before in
     rw (c.unsigned.ensures.0 ∙ local_crosses a.args.code a.ranges.code.sfits)
 
-pub with-code-spec : {M : Type 1} → statement M
-with-code-spec = tie.close (tie.spec
+pub with_code_spec : {M : Type 1} → statement M
+with_code_spec = tie.close (tie.spec
     (λ c κs. search rules)
     returns)

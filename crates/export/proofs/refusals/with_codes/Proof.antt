@@ -8,9 +8,9 @@ use Rattle.export.proofs.refusals.with_codes.Tie as tie
 returns : tie.Need-returns
 returns c =
     let a = c.before.before in
-    rw (c.before.unsigned.ensures.0 ∙ local_crosses a.args.first a.ranges.first.sfits, c.unsigned2.ensures.0 ∙ local_crosses a.args.second a.ranges.second.sfits)
+    rw (c.unsigned.ensures.0 ∙ local_crosses a.args.first a.ranges.first.sfits, c.unsigned-2.ensures.0 ∙ local_crosses a.args.second a.ranges.second.sfits)
 
-pub with-codes-spec : {M : Type 1} → statement M
-with-codes-spec = tie.close (tie.spec
+pub with_codes_spec : {M : Type 1} → statement M
+with_codes_spec = tie.close (tie.spec
     (λ c κs. search rules) (λ c κs. search rules)
     returns)

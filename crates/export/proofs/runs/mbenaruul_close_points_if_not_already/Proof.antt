@@ -16,15 +16,15 @@ by_said e store after = ap (λ (x : Said ℕ). unless_refused x store after) e
 returns : tie.Need-returns
 returns c =
     let w = c.before.before.before.before.before in
-    let r = w.close-points-if-not-already.ensures in
+    let r = w.close_points_if_not_already.ensures in
     record {
-      answer_is = c.closing-told.ensures ∙ ap closing_told r.answered;
+      answer_is = c.closing_told.ensures ∙ ap closing_told r.answered;
       x_is = r.x_left ∙ by_said r.answered _ _;
       y_is = r.y_left ∙ by_said r.answered _ _;
     }
 
-pub mbenaruul-close-points-if-not-already-spec : {M : Type 1} → statement M
-mbenaruul-close-points-if-not-already-spec =
+pub mbenaruul_close_points_if_not_already_spec : {M : Type 1} → statement M
+mbenaruul_close_points_if_not_already_spec =
     tie.close
     (tie.spec
     (λ c κs. search rules) (λ c κs. search rules) (λ c. search rules) (λ c. search rules)

@@ -6,10 +6,10 @@ use Rattle.export.proofs.runs.mbenaruul_is_part_closed.Statement.{statement}
 use Rattle.export.proofs.runs.mbenaruul_is_part_closed.Tie as tie
 
 returns : tie.Need-returns
-returns c = c.closed-told.ensures ∙ ap closed_told c.before.is-part-closed.ensures
+returns c = c.closed_told.ensures ∙ ap closed_told c.is_part_closed.ensures
 
-pub mbenaruul-is-part-closed-spec : {M : Type 1} → statement M
-mbenaruul-is-part-closed-spec =
+pub mbenaruul_is_part_closed_spec : {M : Type 1} → statement M
+mbenaruul_is_part_closed_spec =
     tie.close (tie.spec
     (λ c κs. search rules) (λ c κs. search rules)
     returns)

@@ -8,10 +8,10 @@ use Rattle.export.proofs.runs.mbenaruul_ring_type_from_points_ordering.Statement
 use Rattle.export.proofs.runs.mbenaruul_ring_type_from_points_ordering.Tie as tie
 
 returns : tie.Need-returns
-returns c = c.turning-told.ensures ∙ ap turning_told c.before.ring-type-from-points-ordering.ensures
+returns c = c.turning_told.ensures ∙ ap turning_told c.ring_type_from_points_ordering.ensures
 
-pub mbenaruul-ring-type-from-points-ordering-spec : {M : Type 1} → statement M
-mbenaruul-ring-type-from-points-ordering-spec =
+pub mbenaruul_ring_type_from_points_ordering_spec : {M : Type 1} → statement M
+mbenaruul_ring_type_from_points_ordering_spec =
     tie.close (tie.spec
     (λ c κs. search rules) (λ c κs. search rules)
     returns)

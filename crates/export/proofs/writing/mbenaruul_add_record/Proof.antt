@@ -27,10 +27,10 @@ returns : tie.Need-returns
 returns c =
     let w = c.before.before.before.before.before.before in
     let a = w.before.before.before.before.before.before.before.before.before.before in
-    adds _ _ _ _ _ _ _ _ _ c.add_answer.ensures (rw (back w32 a.args.code a.ranges.code.sfits) at w.add-record.ensures)
+    adds _ _ _ _ _ _ _ _ _ c.add_answer.ensures (rw (back w32 a.args.code a.ranges.code.sfits) at w.add_record-r.ensures)
 
-pub mbenaruul-add-record-spec : {M : Type 1} → statement M
-mbenaruul-add-record-spec =
+pub mbenaruul_add_record_spec : {M : Type 1} → statement M
+mbenaruul_add_record_spec =
     tie.close (tie.spec
     (λ c κs. search rules) (λ c κs. search rules) (λ c. search rules) (λ c. search rules)
     returns)

@@ -7,10 +7,10 @@ use Rattle.export.proofs.writing.mbenaruul_finish.Tie as tie
 
 returns : tie.Need-returns
 returns c =
-    let r = c.before.before.before.finish.ensures in
-    rw (c.finish-refusal.ensures ∙ ap refusal_of r.says, r.shp_is, r.shx_is)
+    let r = c.finish-r.ensures in
+    rw (c.finish_refusal.ensures ∙ ap refusal_of r.says, r.shp_is, r.shx_is)
 
-pub mbenaruul-finish-spec : {M : Type 1} → statement M
-mbenaruul-finish-spec = tie.close (tie.spec
+pub mbenaruul_finish_spec : {M : Type 1} → statement M
+mbenaruul_finish_spec = tie.close (tie.spec
     (λ c κs. search rules) (λ c κs. search rules)
     returns)
