@@ -1,2 +1,3 @@
--- That a record added is one shape more: Appends has the theorem.
+-- That a record added is one shape more: ToFile has the theorem of a file of a kind, and Appends the one of any shapes.
 pub mod Appends
+pub mod ToFile

@@ -9,7 +9,8 @@ use Rattle.writer.specs.declared.State.{State}
 use Rattle.writer.specs.Adding.{record_of, next_state, said_add}
 use Rattle.writer.specs.State.{fresh}
 use Rattle.writer.proofs.Given.{record_behind}
-use Rattle.series.specs.Series.{Add, AddMade, taken}
+use Rattle.series.specs.Series.{Add}
+use Rattle.series.specs.Taken.{AddMade, taken}
 use Rattle.series.proofs.After.{from_fresh}
 use Rattle.evening.specs.Evening.{record_given, up_to, InOneBuffer, front_after, OneBufferIsIt}
 use Rattle.evening.proofs.Kept.{given_more, is-added, record_is}

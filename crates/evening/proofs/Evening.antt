@@ -20,7 +20,7 @@ use Rattle.header.specs.Box.{box_bits}
 use Rattle.boxes.specs.Boxes.{settled}
 use Rattle.boxes.proofs.BoxLaws.{zero-box-bits}
 use Rattle.boxes.proofs.FiniteBoxes.{bits-finite, settled-finite}
-use Rattle.rules.specs.Meaning.{TakenKind, all_parts, all_points, FileOf, Encoded}
+use Rattle.rules.specs.Meaning.{AllWellFormed, TakenKind, all_parts, all_points, FileOf, Encoded}
 use Rattle.pair.specs.declared.Verdict.TheVariants.{Yes}
 use Rattle.pair.proofs.SaidLaws.{said_verdict_one}
 use Rattle.writer.specs.declared.State.{State}
@@ -32,9 +32,12 @@ use Rattle.writer.specs.Finishing.{shp_header, shx_header, Finishes}
 use Rattle.writer.specs.State.{fresh, state_fine}
 use Rattle.writer.proofs.Accepted.{kind-there, never_finishing}
 use Rattle.writer.proofs.StateLaws.{fine}
+use Rattle.appending.specs.Files.{NullWithout}
 use Rattle.appending.specs.OneMore.{KindBehind}
-use Rattle.appending.proofs.Appends.{pair-behind}
-use Rattle.series.specs.Series.{Add, Call, adds, finishes, Made, state_after, taken, shapes_of, first_kind, accepted}
+use Rattle.appending.proofs.ToFile.{pair-behind}
+use Rattle.series.specs.Series.{Add, Call, adds, finishes, Made, state_after, accepted}
+use Rattle.series.specs.Taken.{taken, shapes_taken, first_kind}
+use Rattle.series.proofs.After.{accepted_taken}
 use Rattle.evening.specs.Evening.{Evening, record_given, entry_given, shp_file, shx_file, state_of, box_of, EachIsWritten, EachWellFormed, EachIsChecked, NoneIsEmpty, only_adds, HalfwayIsNothing, HalfwayIsEvening}
 use Rattle.evening.proofs.Kept.{kept}
 
@@ -62,22 +65,23 @@ each_is_written calls last v =
     let s = state_after fresh calls in
     let b = k.holds in
     let kind = first_kind (taken calls) in
-    let shapes = shapes_of (taken calls) in
+    let shapes = shapes_taken (taken calls) in
     record {
       state = k.state;
-      not-refused = finished s b.1 last v.finished;
+      not_refused = finished s b.1 last v.finished;
       pair =
-          subst (λ (r : State). IsPair kind (box_bits (settled r.bbox)) shapes (shp_file calls last) (shx_file calls last)) k.state
+          subst (λ (l : List Shape). IsPair kind (box_of calls) l (shp_file calls last) (shx_file calls last)) (sym (accepted_taken calls))
+          (subst (λ (r : State). IsPair kind (box_bits (settled r.bbox)) shapes (shp_file calls last) (shx_file calls last)) k.state
           (pair_same kind _ shapes _ _ _ _ (pair-behind kind shapes s b.0 b.1)
           (sym (ap₂ ◌++◌ (shp_front s b.1 last v.finished) k.records_are))
-          (sym (ap₂ ◌++◌ (shx_front s b.1 last v.finished) k.entries_are)));
+          (sym (ap₂ ◌++◌ (shx_front s b.1 last v.finished) k.entries_are))));
     }
 
 -- ---- the checker's yes
 
-named : (k : Kind) (ss : List Shape) (code : ℤ) → KindBehind k ss code → kind_at code ≡ some k
-named k [] code e = ap kind_at e.1 ∙ (null_row ∙ ap some (sym e.0))
-named k (s ∷ ss) code e = e
+named : (k : Kind) (ss : List Shape) (code : ℤ) → KindBehind k ss code → NullWithout k ss → kind_at code ≡ some k
+named k [] code e z = ap kind_at e ∙ (null_row ∙ ap some (sym z))
+named k (s ∷ ss) code e z = e
 
 taken-kind : (k : Kind) (code : ℤ) → kind_at code ≡ some k → there (form_at code) ≡ true → TakenKind k
 taken-kind k code e h = record { form = _; in_table = ap kind_at (sym (code_is code k e)) ∙ e; taken = rw e at (kind-there (kind_at code) h).1 }
@@ -88,11 +92,11 @@ module _ (calls : List Call) (last : Finishing) (v : Evening calls last) (w : Ea
       let k = kept calls v.made in
       let s = state_after fresh calls in
       let b = k.holds in
-      let f = k.fine w in
+      let f = k.fine (subst (EachWellFormed (first_kind (taken calls))) (accepted_taken calls) w) in
       record {
-        kind = taken-kind (first_kind (taken calls)) s.kind (named _ (accepted calls) s.kind b.0.kind) (fine s b.1).kind-taken;
+        kind = taken-kind (first_kind (taken calls)) s.kind (named _ (shapes_taken (taken calls)) s.kind b.0.behind.kind b.0.without) (fine s b.1).kind-taken;
         box_finite = subst (λ (r : State). BoxFinite (box_bits (settled r.bbox))) k.state (bits-finite (settled s.bbox) (settled-finite s.bbox f.1));
-        fine = f.0;
+        fine = subst (AllWellFormed (first_kind (taken calls))) (sym (accepted_taken calls)) f.0;
         is = (each_is_written calls last v).pair;
       }
 
@@ -108,14 +112,16 @@ pub none_is_empty : NoneIsEmpty
 none_is_empty calls last v e =
     let shp = shp_file calls last in
     let shx = shx_file calls last in
-    let fine = subst (λ (l : List Add). EachWellFormed (first_kind l) (shapes_of l)) (sym e) tt in
+    let none : accepted calls ≡ [] = accepted_taken calls ∙ ap shapes_taken e in
+    let fine = subst (λ (l : List Shape). EachWellFormed (first_kind (taken calls)) l) (sym none) tt in
     record {
       pair =
           subst (λ (b : Box). IsPair null_kind b [] shp shx) zero-box-bits
-          (subst (λ (l : List Add). IsPair (first_kind l) (box_bits (settled (state_of fresh l).bbox)) (shapes_of l) shp shx) e (each_is_written calls last v).pair);
+          (subst (λ (l : List Add). IsPair (first_kind l) (box_bits (settled (state_of fresh l).bbox)) [] shp shx) e
+          (subst (λ (l : List Shape). IsPair (first_kind (taken calls)) (box_of calls) l shp shx) none (each_is_written calls last v).pair));
       yes = λ r c.
           (each_is_checked calls last v fine).yes r c
-          ∙ ap (λ (l : List Add). Yes (length (shapes_of l)) (all_parts (shapes_of l)) (all_points (shapes_of l))) e;
+          ∙ ap (λ (l : List Shape). Yes (length l) (all_parts l) (all_points l)) none;
     }
 
 -- ---- finishings taken out

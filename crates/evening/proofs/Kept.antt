@@ -19,9 +19,11 @@ use Rattle.writer.specs.State.{fresh}
 use Rattle.writer.proofs.Accepted.{accepted}
 use Rattle.writer.proofs.Given.{record-given, entry-given}
 use Rattle.writer.proofs.NextBox.{next_finite}
-use Rattle.appending.specs.OneMore.{records, entries, kind_with, OneMore}
-use Rattle.appending.proofs.Appends.{appends}
-use Rattle.series.specs.Series.{Add, Call, AddMade, Made, state_after, taken, shapes_of, first_kind}
+use Rattle.appending.specs.Files.{kind_with, OneInFile}
+use Rattle.appending.specs.OneMore.{records, entries}
+use Rattle.appending.proofs.ToFile.{appends_to_file}
+use Rattle.series.specs.Series.{Add, Call, Made, state_after}
+use Rattle.series.specs.Taken.{AddMade, taken, shapes_taken, first_kind}
 use Rattle.series.proofs.After.{Holds, fresh_holds, holds_more, with_one, from_fresh}
 use Rattle.evening.specs.Evening.{record_given, entry_given, state_of, EachWellFormed}
 
@@ -69,9 +71,9 @@ module _ (s : State) (a : Add) (n : ℕ) (c : AddMade s a) (e : said_add a.back.
 pub record Kept (added : List Add) (s : State) : Type 0 where
   pub holds : Holds added s
   pub state : s ≡ state_of fresh added
-  pub records_are : flatten (map record_given added) ≡ records (first_kind added) (shapes_of added)
-  pub entries_are : flatten (map entry_given added) ≡ entries (shapes_of added)
-  pub fine : EachWellFormed (first_kind added) (shapes_of added) → AllWellFormed (first_kind added) (shapes_of added) × FiniteBox s.bbox
+  pub records_are : flatten (map record_given added) ≡ records (first_kind added) (shapes_taken added)
+  pub entries_are : flatten (map entry_given added) ≡ entries (shapes_taken added)
+  pub fine : EachWellFormed (first_kind added) (shapes_taken added) → AllWellFormed (first_kind added) (shapes_taken added) × FiniteBox s.bbox
 
 fresh_kept : Kept [] fresh
 unfolding flatten
@@ -89,10 +91,10 @@ module _ (added : List Add) (s : State) (a : Add) (n : ℕ) (h : Kept added s) (
   k = first_kind added
 
   abbrev ss : List Shape
-  ss = shapes_of added
+  ss = shapes_taken added
 
-  one : OneMore k ss s a.lends
-  one = appends k ss s a.lends (length a.out) a.start (length a.entry) n h.holds.0 (is-added s a n c e)
+  one : OneInFile k ss s a.lends
+  one = appends_to_file k ss s a.lends (length a.out) a.start (length a.entry) n h.holds.0 (is-added s a n c e)
 
   fine_more : EachWellFormed (kind_with k ss a.lends) (ss ++ lent_shape a.lends ∷ [])
       → AllWellFormed (kind_with k ss a.lends) (ss ++ lent_shape a.lends ∷ []) × FiniteBox (next_state s a.lends).bbox

@@ -25,7 +25,8 @@ use Rattle.writer.specs.declared.FinishAnswer.TheVariants.{Finished}
 use Rattle.writer.specs.Adding.{said_add, next_state}
 use Rattle.writer.specs.Finishing.{Finishes}
 use Rattle.writer.specs.State.{fresh}
-use Rattle.series.specs.Series.{Add, Call, adds, finishes, Made, state_after, taken, first_kind, accepted}
+use Rattle.series.specs.Series.{Add, Call, adds, finishes, Made, state_after, accepted}
+use Rattle.series.specs.Taken.{taken, first_kind}
 
 -- ---- what the caller does
 
@@ -68,7 +69,7 @@ box_of calls = box_bits (settled (state_of fresh (taken calls)).bbox)
 -- shapes, in order, with the kind of the first of them and that box.
 pub record Written (calls : List Call) (last : Finishing) : Type 0 where
   pub state : state_after fresh calls ≡ state_of fresh (taken calls)
-  pub not-refused : last.answer ≡ Finished
+  pub not_refused : last.answer ≡ Finished
   pub pair : IsPair (first_kind (taken calls)) (box_of calls) (accepted calls) (shp_file calls last) (shx_file calls last)
 
 abbrev pub EachIsWritten : Type 0

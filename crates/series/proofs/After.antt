@@ -7,15 +7,19 @@ use Prim.Native.Nat.{ℕ}
 use lib.ListN.{length}
 use Rattle.format.specs.declared.kinds.Kind.{Kind}
 use Rattle.format.specs.Said.{Said, gives, refuses, unless_refused}
+use Rattle.format.specs.Kinds.{kind_or}
 use Rattle.format.specs.Shapes.{Shape}
 use Rattle.writer.specs.declared.State.{State}
 use Rattle.writer.specs.Adding.{lent_shape, next_state, said_add}
 use Rattle.writer.specs.State.{fresh, state_fine}
 use Rattle.writer.proofs.Accepted.{never_size, never_finishing, accepted, next_fine}
 use Rattle.writer.proofs.StateLaws.{fresh-fine}
-use Rattle.appending.specs.OneMore.{Behind, kind_with}
-use Rattle.appending.proofs.Appends.{fresh-behind, appends}
-use Rattle.series.specs.Series.{Add, Call, adds, finishes, AddMade, Made, state_after, taken, shapes_of, first_kind}
+use Rattle.rules.specs.Meaning.{all_points}
+use Rattle.appending.specs.Files.{FileBehind, kind_with}
+use Rattle.appending.specs.OneMore.{Behind, state_kind}
+use Rattle.appending.proofs.ToFile.{file_begins, appends_to_file}
+use Rattle.series.specs.Series.{Add, Call, adds, finishes, Made, state_after, accepted as shapes_accepted}
+use Rattle.series.specs.Taken.{AddMade, taken, shapes_taken, first_kind, AcceptedTaken}
 use Rattle.series.specs.Totals.{Totals, NeverSize, StatesServe, BehindAccepted}
 
 -- ---- the state behind one add
@@ -50,30 +54,48 @@ module _ (P : List Add → State → Type 0)
 -- ---- the state is behind the accepted shapes, and a writer state
 
 abbrev pub Holds : List Add → State → Type 0
-Holds added s = Behind (first_kind added) (shapes_of added) s × (state_fine s ≡ true)
+Holds added s = FileBehind (first_kind added) (shapes_taken added) s × (state_fine s ≡ true)
 
 pub fresh_holds : Holds [] fresh
-fresh_holds = (fresh-behind, fresh-fine)
+fresh_holds = (file_begins, fresh-fine)
 
 -- what holds of one shape more holds of the shapes of one add more, with the kind of the first
-pub with_one : (P : Kind → List Shape → Type 0) (added : List Add) (a : Add) → P (kind_with (first_kind added) (shapes_of added) a.lends) (shapes_of added ++ lent_shape a.lends ∷ [])
-    → P (first_kind (added ++ a ∷ [])) (shapes_of (added ++ a ∷ []))
+pub with_one : (P : Kind → List Shape → Type 0) (added : List Add) (a : Add) → P (kind_with (first_kind added) (shapes_taken added) a.lends) (shapes_taken added ++ lent_shape a.lends ∷ [])
+    → P (first_kind (added ++ a ∷ [])) (shapes_taken (added ++ a ∷ []))
 with_one P [] a p = p
 with_one P (b ∷ added) a p = rw (map-append (λ (c : Add). lent_shape c.lends) added (a ∷ [])) p
 
 pub holds_more : (added : List Add) (s : State) (a : Add) (n : ℕ) → Holds added s → AddMade s a → said_add a.back.answer ≡ gives n → Holds (added ++ a ∷ []) (next_state s a.lends)
 holds_more added s a n h c e =
-    let one = appends (first_kind added) (shapes_of added) s a.lends (length a.out) a.start (length a.entry) n h.0 (sym c.says ∙ e) in
-    (with_one (λ (k : Kind) (ss : List Shape). Behind k ss (next_state s a.lends)) added a one.behind, one.fine)
+    let one = appends_to_file (first_kind added) (shapes_taken added) s a.lends (length a.out) a.start (length a.entry) n h.0 (sym c.says ∙ e) in
+    (with_one (λ (k : Kind) (ss : List Shape). FileBehind k ss (next_state s a.lends)) added a one.behind, one.fine)
 
 holds : (calls : List Call) → Made fresh calls → Holds (taken calls) (state_after fresh calls)
 holds = from_fresh Holds holds_more fresh_holds
 
+-- what one call adds to the accepted shapes, and to the adds that were taken
+one_taken : (a : Add) (ss : List Shape) (added : List Add) → ss ≡ shapes_taken added → (said : Said ℕ)
+    → unless_refused said [] (lent_shape a.lends ∷ []) ++ ss ≡ shapes_taken (unless_refused said added (a ∷ added))
+one_taken a ss added e (gives n) = ap (λ (l : List Shape). lent_shape a.lends ∷ l) e
+one_taken a ss added e (refuses n vs) = e
+
+pub accepted_taken : AcceptedTaken
+accepted_taken [] = refl
+accepted_taken (adds a ∷ calls) = one_taken a (shapes_accepted calls) (taken calls) (accepted_taken calls) (said_add a.back.answer)
+accepted_taken (finishes f ∷ calls) = accepted_taken calls
+
+-- a state behind shapes of a kind names that kind
+named : (k : Kind) (ss : List Shape) (s : State) → Behind k ss s → Behind (state_kind s) ss s
+named k [] s b = record { words = b.words; number = b.number; kind = b.kind; points = b.points; held = b.held }
+named k (x ∷ ss) s b = subst (λ (i : Kind). Behind i (x ∷ ss) s) (sym (ap kind_or b.kind)) b
+
 pub behind-accepted : BehindAccepted
-behind-accepted calls m = (holds calls m).0
+behind-accepted calls m =
+    let s = state_after fresh calls in
+    subst (λ (l : List Shape). Behind (state_kind s) l s) (sym (accepted_taken calls)) (named (first_kind (taken calls)) (shapes_taken (taken calls)) s (holds calls m).0.behind)
 
 pub totals : Totals
-totals calls m = (holds calls m).0.points
+totals calls m = (holds calls m).0.behind.points ∙ ap all_points (sym (accepted_taken calls))
 
 -- ---- no state is refused with 3
 

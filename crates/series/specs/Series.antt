@@ -1,13 +1,11 @@
 -- A series of calls: adds and finishings in any order, refused ones among them, each on the state that the call before it left.
-use Rattle.std.specs.Prelude.{List, [], ◌∷◌, map, ℕ}
-use Rattle.format.specs.declared.kinds.Kind.{Kind}
-use Rattle.format.specs.Kinds.{null_kind}
+use Rattle.std.specs.Prelude.{List, [], ◌∷◌, ◌++◌, ℕ}
 use Rattle.format.specs.Said.{unless_refused}
 use Rattle.format.specs.Shapes.{Shape}
 use Rattle.writer.specs.declared.State.{State}
 use Rattle.writer.specs.declared.Adding.{Adding}
 use Rattle.writer.specs.declared.Finishing.{Finishing}
-use Rattle.writer.specs.Adding.{Lent, lent_kind, lent_shape, said_add, Adds}
+use Rattle.writer.specs.Adding.{Lent, lent_shape, said_add, Adds}
 use Rattle.writer.specs.Finishing.{Finishes}
 
 -- an add: what it lends, what comes back, and both buffers behind it; where the state is lent, what comes back is `adding` of the answer and of
@@ -25,14 +23,10 @@ pub data Call : Type 0 where
   adds : Add → Call
   finishes : Finishing → Call
 
--- the add meets its contract on this state
-abbrev pub AddMade : State → Add → Type 0
-AddMade s a = Adds s a.lends a.out a.start a.entry a.back a.out' a.entry'
-
 -- from this state on, each call meets its contract
 abbrev pub Made : State → List Call → Type 0
 Made s [] = Unit {0}
-Made s (adds a ∷ calls) = AddMade s a × Made a.back.state calls
+Made s (adds a ∷ calls) = Adds s a.lends a.out a.start a.entry a.back a.out' a.entry' × Made a.back.state calls
 Made s (finishes f ∷ calls) = Finishes s f × Made s calls
 
 -- the state that the last of them leaves
@@ -41,20 +35,12 @@ state_after s [] = s
 state_after s (adds a ∷ calls) = state_after a.back.state calls
 state_after s (finishes f ∷ calls) = state_after s calls
 
--- the adds that were accepted, in order
-abbrev pub taken : List Call → List Add
-taken [] = []
-taken (adds a ∷ calls) = unless_refused (said_add a.back.answer) (taken calls) (a ∷ taken calls)
-taken (finishes f ∷ calls) = taken calls
-
--- their shapes, and the kind of the first of them: without one it is Null's
-abbrev pub shapes_of : List Add → List Shape
-shapes_of added = map (λ (a : Add). lent_shape a.lends) added
-
-abbrev pub first_kind : List Add → Kind
-first_kind [] = null_kind
-first_kind (a ∷ added) = lent_kind a.lends
+-- the shape of an add that was accepted, and none of a refused one
+abbrev pub shapes_of : Add → List Shape
+shapes_of a = unless_refused (said_add a.back.answer) [] (lent_shape a.lends ∷ [])
 
 -- the shapes that have been accepted, in order
 abbrev pub accepted : List Call → List Shape
-accepted calls = shapes_of (taken calls)
+accepted [] = []
+accepted (adds a ∷ calls) = shapes_of a ++ accepted calls
+accepted (finishes f ∷ calls) = accepted calls

@@ -10,8 +10,8 @@ use Rattle.writer.specs.declared.FinishAnswer.TheVariants as FinishIs
 use Rattle.writer.specs.Adding.{Lent, Adds}
 use Rattle.writer.specs.Finishing.{Finishes}
 use Rattle.writer.specs.State.{fresh}
-use Rattle.appending.specs.OneMore.{Behind}
-use Rattle.series.specs.Series.{Call, Made, state_after, taken, first_kind, accepted}
+use Rattle.appending.specs.OneMore.{Behind, state_kind}
+use Rattle.series.specs.Series.{Call, Made, state_after, accepted}
 
 -- the total of points is the sum over the accepted shapes
 abbrev pub Totals : Type 0
@@ -30,6 +30,6 @@ pub record StatesServe : Type 0 where
       → Adds s t out start entry r out' entry' → r.answer ≡ AddIs.Added n → NeverSize r.state
   pub after : (calls : List Call) → Made fresh calls → NeverSize (state_after fresh calls)
 
--- all of the state but its box: it is the one behind the accepted shapes, of the kind of the first of them
+-- all of the state but its box: it is the one behind the accepted shapes
 abbrev pub BehindAccepted : Type 0
-BehindAccepted = (calls : List Call) → Made fresh calls → Behind (first_kind (taken calls)) (accepted calls) (state_after fresh calls)
+BehindAccepted = (calls : List Call) → Made fresh calls → Behind (state_kind (state_after fresh calls)) (accepted calls) (state_after fresh calls)
