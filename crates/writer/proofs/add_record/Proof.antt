@@ -85,7 +85,7 @@ next-state-requires c κs =
 
 returns : tie.Need-returns-in-Refused
 returns c =
-    let answer = c in
+    let answer : tie.In-Refused = search rules in
     let s = start_of answer.before in
     adds-refused s.args.state (lent_of s) s.args.out.now s.args.start s.args.entry.now _ (refused answer)
 
