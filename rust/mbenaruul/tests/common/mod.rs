@@ -31,26 +31,39 @@ pub fn is_polygon(kind: i32) -> bool {
     [5, 25, 15].contains(&kind)
 }
 
-/// Marsaglia's xorshift.
-pub struct Random(u64);
+/// Marsaglia's xorshift; where it is so made, one coordinate in thirty or so is one of the two zeros.
+pub struct Random {
+    state: u64,
+    zeros: bool,
+}
 
 impl Random {
     pub fn new(seed: u64) -> Random {
-        Random(seed.wrapping_mul(0x9e37_79b9_7f4a_7c15) | 1)
+        Random {
+            state: seed.wrapping_mul(0x9e37_79b9_7f4a_7c15) | 1,
+            zeros: false,
+        }
+    }
+
+    pub fn with_zeros(seed: u64) -> Random {
+        Random {
+            zeros: true,
+            ..Random::new(seed)
+        }
     }
 
     pub fn next(&mut self) -> u64 {
-        self.0 ^= self.0 << 13;
-        self.0 ^= self.0 >> 7;
-        self.0 ^= self.0 << 17;
-        self.0
+        self.state ^= self.state << 13;
+        self.state ^= self.state >> 7;
+        self.state ^= self.state << 17;
+        self.state
     }
 
     pub fn below(&mut self, n: usize) -> usize {
         (self.next() % n as u64) as usize
     }
 
-    /// A coordinate: of any size now and then, else a small one, or one of the two zeros.
+    /// A coordinate: of any size now and then, else a small one.
     pub fn double(&mut self) -> f64 {
         let any = f64::from_bits(self.next());
         if any.is_finite() && any.abs() < 1e30 && self.below(4) == 0 {
@@ -58,8 +71,8 @@ impl Random {
         }
         let small = self.below(2_000_001);
         match small % 64 {
-            0 => 0.0,
-            1 => -0.0,
+            0 if self.zeros => 0.0,
+            1 if self.zeros => -0.0,
             _ => (small as f64 - 1e6) / 64.0,
         }
     }

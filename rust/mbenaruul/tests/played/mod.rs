@@ -96,7 +96,7 @@ impl<'a> Evening<'a> {
         Evening {
             kind,
             step: 0,
-            random: Random::new(seed.wrapping_mul(64).wrapping_add(own)),
+            random: Random::with_zeros(seed.wrapping_mul(64).wrapping_add(own)),
             writer: Writer::new(),
             known: Known::new(),
             accepted: Vec::new(),
