@@ -5,7 +5,7 @@
 
 ghost use Rattle.std.specs.Prelude.{◌≡◌, length};
 
-use libc::STDOUT_FILENO;
+use std::io;
 
 mod answers;
 mod bodies;
@@ -17,9 +17,8 @@ mod seen;
 mod stores;
 mod stream;
 
-fn number(label: &[u8], n: u64) {
-    io::write_all(STDOUT_FILENO, label);
-    io::print_decimal(STDOUT_FILENO, n);
+fn number(rt: &impl Print, label: &str, n: u64) -> io::Result<()> {
+    print!(rt; "{label}{n}")
 }
 
 fn mebibyte() -> [u8; 1048576]
@@ -29,7 +28,7 @@ fn mebibyte() -> [u8; 1048576]
 }
 
 // The stores hold whatever a block of a mebibyte can give.
-fn main() {
+fn main(rt: HostRuntime) -> io::Result<()> {
     let mut block = mebibyte();
     let mut counts = [0u32; 65536];
     let mut xs = [0.0; 65536];
@@ -38,6 +37,7 @@ fn main() {
     let mut ms = [0.0; 65536];
     let mut out = mebibyte();
     let t = stream::run(
+        &mut rt.stdin(),
         &mut block,
         &mut counts,
         &mut xs,
@@ -46,9 +46,9 @@ fn main() {
         &mut ms,
         &mut out,
     );
-    number(b"cases=", t.cases);
-    number(b" wrong=", t.wrong);
-    number(b" first=", t.first);
-    number(b" broken=", t.broken);
-    io::write_all(STDOUT_FILENO, b"\n");
+    number(&rt, "cases=", t.cases)?;
+    number(&rt, " wrong=", t.wrong)?;
+    number(&rt, " first=", t.first)?;
+    number(&rt, " broken=", t.broken)?;
+    println!(rt)
 }

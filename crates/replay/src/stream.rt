@@ -3,7 +3,7 @@
 ghost use Rattle.std.specs.Prelude.{◌<◌, ◌≤◌, length};
 
 use crate::{answers, given};
-use libc::STDIN_FILENO;
+use std::io::Read;
 use std::num::wrapping_add_u64;
 
 // How many cases there were, how many were wrong, and the number of the first wrong one. Broken is 1 where the stream does not have its form.
@@ -155,10 +155,25 @@ fn block(
     u
 }
 
+// Reads until the buffer is full, the input ends or a read fails, and says how many bytes there are at its front.
+fn read_full(input: &mut impl Read, buf: &mut [u8]) -> usize
+    ensures { result ≤ length buf.new }
+{
+    let mut done = 0;
+    while done < buf.len() {
+        let n = input.read(&mut buf[done..]).unwrap_or(0);
+        if n == 0 {
+            break;
+        }
+        done += n;
+    }
+    done
+}
+
 // The length of the next block; more than any has, where the input ends.
-fn next_length() -> usize {
+fn next_length(input: &mut impl Read) -> usize {
     let mut four = [0u8; 4];
-    if io::read_full(STDIN_FILENO, &mut four) == 4 {
+    if read_full(input, &mut four) == 4 {
         return given::word(&four, 0);
     }
     0xffff_ffff
@@ -174,6 +189,7 @@ fn came(t: Tally, said: usize, got: usize) -> Tally {
 
 // The next block is read and its cases are run.
 fn next(
+    input: &mut impl Read,
     t: Tally,
     all: &mut [u8],
     counts: &mut [u32],
@@ -183,9 +199,9 @@ fn next(
     ms: &mut [f64],
     out: &mut [u8],
 ) -> Tally {
-    let said = next_length();
+    let said = next_length(input);
     let n = given::least(said, all.len());
-    let got = io::read_full(STDIN_FILENO, &mut all[0..n]);
+    let got = read_full(input, &mut all[0..n]);
     let k = given::least(got, n);
     block(&all[0..k], came(t, said, got), counts, xs, ys, zs, ms, out)
 }
@@ -200,6 +216,7 @@ fn then(left: u64, ended: bool) -> u64
 
 // Block after block, until the stream has ended.
 pub fn run(
+    input: &mut impl Read,
     all: &mut [u8],
     counts: &mut [u32],
     xs: &mut [f64],
@@ -217,7 +234,7 @@ pub fn run(
     };
     let mut left = 0xffff_ffff_ffff_ffff;
     while 0 < left {
-        t = next(t, all, counts, xs, ys, zs, ms, out);
+        t = next(input, t, all, counts, xs, ys, zs, ms, out);
         left = then(left, t.ended);
     }
     t
