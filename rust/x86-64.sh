@@ -1,12 +1,10 @@
 # Sourced behind tools/made.sh by the scripts that build for Rust and C: what builds and runs x86-64 programs here. The archive of the proved library
 # links into no others; on another processor they are built with Debian's cross packages and run by an emulator. Sets
 #   built     the folder of all that is built
-#   archive   the folder of libexport.a
 #   cc        the C compiler's words
 #   run       the words in front of an x86-64 program
-# and gives `make_archive`, and `in_crate`, which is cargo in the crate. Where something is missing, tools/setup has named it, and the exit status is 3.
+# and gives `in_crate`, which is cargo in the crate. Where something is missing, tools/setup has named it, and the exit status is 3.
 built=$root/target/rust
-archive=$root/target/staticlib
 "$root/tools/setup" rust || exit 3
 
 RUSTC=$(rustc_for_x86_64)
@@ -21,22 +19,6 @@ if [ "$(uname -m)" != x86_64 ]; then
     # The example in the documentation is run in the emulator too, which cargo of today's Debian does only if it is asked as a nightly one is.
     export RUSTC_BOOTSTRAP=1 CARGO_UNSTABLE_DOCTEST_XCOMPILE=true
 fi
-
-# libexport.a is proved and built.
-make_archive() {
-    made libexport.a proved_sum prove_archive "$archive/libexport.a"
-}
-
-prove_archive() {
-    local said
-    "$root/tools/setup" rt || return 3
-    echo "rust: proving and building the library first, which takes some minutes" >&2
-    said=$(cd "$root" && rt staticlib export 2>&1) || {
-        echo "$said" >&2
-        echo "rust: rt staticlib export failed" >&2
-        return 1
-    }
-}
 
 # in_crate SUBCOMMAND WORDS..: in the crate's own folder, since cargo looks for its settings from the current one on.
 in_crate() {

@@ -1,5 +1,5 @@
 //! Links libexport.a, the proved library: from the folder that MBENARUUL_LIB names; or else from lib/,
-//! where it is handed on beside this crate; or else from where `rt staticlib export` puts it.
+//! where it is handed on beside this crate; or else from where `rust/build-library` puts it.
 
 use std::path::{Path, PathBuf};
 use std::time::SystemTime;
@@ -56,7 +56,7 @@ fn holding(folder: PathBuf) -> PathBuf {
     println!("cargo:rerun-if-changed={}", archive.display());
     if !archive.is_file() {
         stop(&format!(
-            "{} is not there: `rt staticlib export`, run in the repository's root, makes it; \
+            "{} is not there: `rust/build-library`, run in the repository's root, makes it; \
              or let MBENARUUL_LIB name the folder that holds it",
             archive.display()
         ));
@@ -72,7 +72,7 @@ fn not_older(made: &Path, crates: &Path) {
     match newer {
         Ok(None) => {}
         Ok(Some(source)) => stop(&format!(
-            "{} is older than {}: `rt staticlib export`, run in the repository's root, makes it \
+            "{} is older than {}: `rust/build-library`, run in the repository's root, makes it \
              again",
             archive.display(),
             source.display()

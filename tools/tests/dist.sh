@@ -9,7 +9,7 @@ told 'dist: one file, with the version in its name' [ "$dist" = "$root/target/di
 again() {
     local elsewhere=$cases/elsewhere/deeper
     mkdir -p "$elsewhere"
-    (cd "$root" && umask 027 && cp -R --parents README.md LICENSE NOTICE docs include plan paircheck crates.txt crates tools rust \
+    (cd "$root" && umask 027 && cp -R --parents README.md LICENSE NOTICE docs include plan paircheck crates.txt crates/*/{src,specs,proofs,data} tools rust \
         target/made target/bin target/obj target/staticlib "$elsewhere")
     (PATH=$path_without_rt && "$elsewhere/tools/dist") && cmp "$dist" "$elsewhere"/target/dist/*.tar.gz
 }

@@ -10,7 +10,7 @@ told 'plan check --help leads there' leads_there
 # Each crate stands behind those that it depends on, and README lists them in the same order.
 in_layers() {
     awk -F: '
-        { count = split($2, needed, " "); listed[$1] = NR; names[NR] = $1; for (i = 1; i <= count; i++) needs[NR] = needs[NR] " " needed[i] }
+        { count = split($2, needed, " "); sub(/ staticlib$/, "", $1); listed[$1] = NR; names[NR] = $1; for (i = 1; i <= count; i++) needs[NR] = needs[NR] " " needed[i] }
         END {
             for (n = 1; n <= NR; n++) {
                 count = split(needs[n], needed, " ")
@@ -20,8 +20,8 @@ in_layers() {
         }' crates.txt
 }
 told 'crates.txt is in the order of the layers' in_layers
-in_readme() { awk '/^\| crate \|/ { on = 1; next } on && /^\|/ { split($0, cell, "|"); print cell[2] } on && !/^\|/ { exit }' README.md | grep -o '`[a-z]*`' | tr -d '`'; }
-told 'README lists the crates in that order' says 0 "$(cut -d: -f1 crates.txt)" in_readme
+in_readme() { awk '/^\| crate \|/ { on = 1; next } on && /^\|/ { split($0, cell, "|"); print cell[2] } on && !/^\|/ { exit }' README.md | grep -o '`[a-z_]*`' | tr -d '`'; }
+told 'README lists the crates in that order' says 0 "$(cut -d: -f1 crates.txt | sed 's/ staticlib$//')" in_readme
 mit() { head -n 1 LICENSE | grep -qx 'MIT License' && grep -q LICENSE README.md && grep -q NOTICE README.md; }
 told 'the licence of our own code is there, and README names it' mit
 

@@ -91,6 +91,10 @@ told 'gate: in CI what is missing is a failure' says 1 'gate: FAILED: something 
 brought
 told 'gate: in CI a part that cannot run is a failure' says 1 '3 passed, 0 failed
 gate: FAILED: the comparison with the Rust crate: it cannot run here' run_gate env CI=true SHAPEFILE_SRC=/nowhere
+stand_in rt 'echo "rt: ok; handles allowed: none; must-fail edits: 4 refused, 1 bad; every proof and must-fail edit was done in this run"; echo "3 passed, 0 failed"'
+told 'gate: an edit that could not be tried is a failure' says 1 'rt: ok; handles allowed: none; must-fail edits: 4 refused, 1 bad; every proof and must-fail edit was done in this run
+3 passed, 0 failed
+gate: FAILED: a must-fail edit is bad' run_gate env CI=true
 stand_in rt 'echo "2 passed, 1 failed"; exit 1'
 told 'gate: rt that fails is a failure' says 1 '2 passed, 1 failed' run_gate env CI=true
 stand_in rt 'echo something'

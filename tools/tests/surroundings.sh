@@ -20,10 +20,10 @@ told 'plan: once it is built, with no rt' says 0 "$good" without_rt check linked
 # ---- a folder full of files that would be run, if anything were
 
 trap_folder=$cases/trap
-mkdir -p "$trap_folder/lib" "$trap_folder/bin" "$trap_folder/on/$(uname -m)/toolchain/lib" "$trap_folder/on/$(uname -m)/toolchain/bin"
+mkdir -p "$trap_folder/lib" "$trap_folder/bin" "$trap_folder/toolchain/lib" "$trap_folder/toolchain/bin"
 printf '#!/bin/sh\necho yes records=9 parts=9 points=9\n' >"$trap_folder/one"
 chmod +x "$trap_folder/one"
-for name in lib/ld-linux-x86-64.so.2 "on/$(uname -m)/toolchain/lib/ld-linux-x86-64.so.2" "on/$(uname -m)/toolchain/bin/qemu-x86_64" bin/qemu-x86_64 \
+for name in lib/ld-linux-x86-64.so.2 toolchain/lib/ld-linux-x86-64.so.2 toolchain/bin/qemu-x86_64 bin/qemu-x86_64 \
     readlink dirname uname cat sha256sum find sort xargs cut flock bash rt rustc cargo cc qemu-x86_64 plan paircheck program bin/plan bin/paircheck; do
     cp "$trap_folder/one" "$trap_folder/$name"
 done
@@ -87,7 +87,7 @@ told 'plan: starts at once' quick $((${#run[@]} ? 2000 : 700)) "$root/plan" chec
 
 copied="$cases/a copy"
 mkdir -p "$copied"
-(cd "$root" && cp -R --parents plan paircheck crates.txt crates tools rust include target/made target/bin target/obj target/staticlib target/rust/plan "$copied")
+(cd "$root" && cp -R --parents plan paircheck crates.txt crates/*/{src,specs,proofs} tools rust include target/made target/bin target/obj target/staticlib target/rust/plan "$copied")
 copied_pair() { without_rt "$copied/paircheck" linked.shp linked.shx; }
 copied_plan() { without_rt "$copied/plan" check linked.shp; }
 missing="setup: missing: Rattle's rt"
