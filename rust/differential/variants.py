@@ -62,15 +62,17 @@ VARIANTS = [
 
 def wrong_cases(work, path, old, new):
     """What the program says of the fixed list over the crates with one text exchanged; None where it says that all is well."""
-    shutil.copytree(os.path.join(ROOT, 'crates'), os.path.join(work, 'crates'))
+    shutil.copytree(os.path.join(ROOT, 'crates'), os.path.join(work, 'crates'), ignore=shutil.ignore_patterns('out'))
     shutil.copy(os.path.join(ROOT, 'crates.txt'), work)
     path = os.path.join(work, 'crates', path)
     text = open(path).read()
     if text.count(old) != 1:
         sys.exit(f'{path}: {text.count(old)} times, and not once: {old}')
     open(path, 'w').write(text.replace(old, new))
-    said = subprocess.run(['rt', 'try', 'replay'], cwd=work, capture_output=True, text=True, errors='replace')
-    found = re.search(r'found "(?:cases=\d+ wrong=)?(\d+) first=\d+ broken=0', said.stdout + said.stderr)
+    replay = os.path.join(work, 'crates', 'replay')
+    with open(os.path.join(replay, 'stdin')) as cases:
+        said = subprocess.run(['rt', 'try'], cwd=replay, stdin=cases, stdout=subprocess.PIPE, stderr=subprocess.DEVNULL, text=True, errors='replace')
+    found = re.search(r'^cases=\d+ wrong=([1-9]\d*) first=\d+ broken=0$', said.stdout, re.MULTILINE)
     return found and found.group(1)
 
 
