@@ -60,6 +60,7 @@ latin=$cases/$'G\xe4nge'
 copy "$odd"
 copy "$latin"
 cp "$data/exchanged.shx" "$cases/"$'not\xe4.shx'
+cp "$data/exchanged.shx" "$cases/"$'past\xf4\x90\x80\x80.shx'
 cd "$cases"
 told 'plan: a name with a newline is on one line' says 0 "./a\"b\\\\c\\nd: yes records=9.shp: $good"$'\n'"./-dash.shp: $good" check ./"${odd##*/}".shp ./-dash.shp
 told 'plan: a name that is not UTF-8 comes out as its bytes' says 0 $'G\xe4nge.shp: '"$good"$'\n'"./-dash.shp: $good" check $'G\xe4nge.shp' ./-dash.shp
@@ -159,6 +160,7 @@ told 'paircheck: one name' complains 2 'usage: paircheck SHP SHX' pair linked.sh
 told 'paircheck: a name with a newline' says 0 "$good" pair "${odd##*/}.shp" "${odd##*/}.shx"
 told 'paircheck: a name that is not UTF-8' says 0 "$good" pair $'G\xe4nge.shp' $'G\xe4nge.shx'
 told 'paircheck: one such name, of a pair that is none' says 1 'no rule=P11 record=1' pair "$data/exchanged.shp" $'not\xe4.shx'
+told 'paircheck: a name past the last character' says 1 'no rule=P11 record=1' pair "$data/exchanged.shp" $'past\xf4\x90\x80\x80.shx'
 
 unchanged() { listing | cmp -s - "$root/target/before"; }
 told 'nothing was written beside the files' unchanged
