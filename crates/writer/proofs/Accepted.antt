@@ -177,6 +177,9 @@ module _ (s : State) (t : Lent) (a : Accepted s t) where
   next_set : is_zero (next_state s t).kind ≡ false
   next_set = kind_next (λ (z : ℤ). is_zero z ≡ false) (λ e. rw e at a.not_first) (λ e. e)
 
+  pub kind-named : kind_at (next_state s t).kind ≡ some (kind_or (kind_at (next_state s t).kind))
+  kind-named = (kind-there (kind_at (next_state s t).kind) next_taken).0
+
   -- behind another record the state has its kind
   pub kind_stays : (nat_abs s.number ≡ 1 → ⊥) → (next_state s t).kind ≡ s.kind
   kind_stays h = kind_next (λ (z : ℤ). z ≡ s.kind) (λ e. refl) (λ e. sym (go (is_zero s.kind) refl (rw e at a.same_kind)))

@@ -1,8 +1,9 @@
--- The numbers of a state behind an added record, and the headers of a state.
-use mathlib.Core.Path.{◌≡◌, refl}
-use Prim.Native.Nat.{◌+◌, ◌*◌, ◌-◌}
+-- What follows once a record is added: the next state's numbers, and the headers of that state; and the headers of any.
+use mathlib.Core.Path.{◌≡◌, refl, ap}
+use Prim.Native.Nat.{ℕ, ◌+◌, ◌*◌, ◌-◌}
+use native.Mathlib.Omega.{arith}
 use lib.IntN.{pos, nat_abs}
-use Rattle.format.specs.Encoding.{header_bytes}
+use Rattle.format.specs.Encoding.{Box, header_bytes}
 use Rattle.header.specs.Box.{box_bits}
 use Rattle.boxes.specs.Boxes.{settled}
 use Rattle.writer.specs.declared.State.{State}
@@ -31,6 +32,17 @@ module _ (s : State) (t : Lent) where
   pub points_next : (next_state s t).points ≡ points_then s t
   unfolding next_state
   points_next = refl
+
+  abbrev box : Box
+  box = box_bits (settled (next_state s t).bbox)
+
+  pub shp_next : shp_header (next_state s t) ≡ header_bytes (words_then s t) 1000 (nat_abs (next_state s t).kind) box
+  unfolding shp_header next_state
+  shp_next = refl
+
+  pub shx_next : shx_header (next_state s t) ≡ header_bytes (50 + 4 * nat_abs s.number) 1000 (nat_abs (next_state s t).kind) box
+  unfolding shx_header next_state
+  shx_next = ap (λ (w : ℕ). header_bytes w 1000 (nat_abs (next_state s t).kind) box) (omega arith)
 
 -- the headers of a state
 module _ (s : State) where
