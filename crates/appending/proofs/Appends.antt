@@ -22,6 +22,10 @@ use Rattle.appending.proofs.ToFile.{words_are, file-named, appends_to_file}
 pub fresh-behind : Beginning
 fresh-behind k = record { words = ap pos (sym (end_nil 50)); number = refl; kind = refl; points = refl; held = tt }
 
+-- a state that is behind no shapes of a kind is behind none of any
+pub behind_none : (k l : Kind) (s : State) → Behind k [] s → Behind l [] s
+behind_none k l s b = record { words = b.words; number = b.number; kind = b.kind; points = b.points; held = b.held }
+
 -- ---- the file that they are of: without a shape it is of Null's kind
 
 file_kind : Kind → List Shape → Kind
@@ -30,7 +34,7 @@ file_kind k (x ∷ ss) = k
 
 theirs : (k : Kind) (ss : List Shape) (s : State) → Behind k ss s → Behind (file_kind k ss) ss s
 unfolding file_kind
-theirs k [] s b = record { words = b.words; number = b.number; kind = b.kind; points = b.points; held = b.held }
+theirs k [] s b = behind_none k null_kind s b
 theirs k (x ∷ ss) s b = b
 
 null_without : (k : Kind) (ss : List Shape) → NullWithout (file_kind k ss) ss

@@ -74,8 +74,7 @@ fn header_read(a: HeaderAnswer) -> HeaderRead
     }
 }
 
-#[unsafe(no_mangle)]
-pub extern "C" fn mbenaruul_read_header(bytes: &[u8]) -> HeaderRead
+pub fn mbenaruul_read_header(bytes: &[u8]) -> HeaderRead
     ensures { result ≡ header_read (header_of bytes.now) }
 {
     header_read(header::read_header(bytes))
@@ -99,8 +98,7 @@ fn record_header_read(a: RecordHeaderAnswer) -> RecordHeaderRead
     }
 }
 
-#[unsafe(no_mangle)]
-pub extern "C" fn mbenaruul_read_record_header(bytes: &[u8]) -> RecordHeaderRead
+pub fn mbenaruul_read_record_header(bytes: &[u8]) -> RecordHeaderRead
     ensures { result ≡ record_header_read (two_of record_header bytes.now) }
 {
     record_header_read(header::entries::read_record_header(bytes))
@@ -124,8 +122,7 @@ fn index_entry_read(a: ShapeIndexAnswer) -> IndexEntryRead
     }
 }
 
-#[unsafe(no_mangle)]
-pub extern "C" fn mbenaruul_read_index_entry(bytes: &[u8]) -> IndexEntryRead
+pub fn mbenaruul_read_index_entry(bytes: &[u8]) -> IndexEntryRead
     ensures { result ≡ index_entry_read (two_of shape_index bytes.now) }
 {
     index_entry_read(header::entries::read_index_entry(bytes))

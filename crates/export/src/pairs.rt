@@ -50,8 +50,7 @@ fn pair_checked(v: Verdict) -> PairChecked
     }
 }
 
-#[unsafe(no_mangle)]
-pub extern "C" fn mbenaruul_check_pair(shp: &[u8], shx: &[u8]) -> PairChecked
+pub fn mbenaruul_check_pair(shp: &[u8], shx: &[u8]) -> PairChecked
     ensures { ChecksPair shp.now shx.now result }
 {
     pair_checked(pair::check_pair(shp, shx))

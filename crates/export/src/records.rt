@@ -121,8 +121,7 @@ fn record_read(a: RecordAnswer) -> RecordRead
 }
 
 // Any kind that is taken.
-#[unsafe(no_mangle)]
-pub extern "C" fn mbenaruul_read_record(
+pub fn mbenaruul_read_record(
     content: &[u8],
     size: i64,
     counts: &mut [u32],
@@ -137,8 +136,7 @@ pub extern "C" fn mbenaruul_read_record(
 }
 
 // One kind only.
-#[unsafe(no_mangle)]
-pub extern "C" fn mbenaruul_read_record_of(
+pub fn mbenaruul_read_record_of(
     wanted: i32,
     content: &[u8],
     size: i64,

@@ -64,26 +64,19 @@ fn closing_told(a: CloseAnswer) -> Told
     }
 }
 
-#[unsafe(no_mangle)]
-pub extern "C" fn mbenaruul_is_part_closed(x: &[f64], y: &[f64], n: usize) -> Told
+pub fn mbenaruul_is_part_closed(x: &[f64], y: &[f64], n: usize) -> Told
     ensures { result ≡ closed_told (closed_of x.now y.now n) }
 {
     closed_told(rings::is_part_closed(x, y, n))
 }
 
-#[unsafe(no_mangle)]
-pub extern "C" fn mbenaruul_ring_type_from_points_ordering(x: &[f64], y: &[f64], n: usize) -> Told
+pub fn mbenaruul_ring_type_from_points_ordering(x: &[f64], y: &[f64], n: usize) -> Told
     ensures { result ≡ turning_told (turning_of x.now y.now n) }
 {
     turning_told(rings::ring_type_from_points_ordering(x, y, n))
 }
 
-#[unsafe(no_mangle)]
-pub extern "C" fn mbenaruul_close_points_if_not_already(
-    x: &mut [f64],
-    y: &mut [f64],
-    n: usize,
-) -> Told
+pub fn mbenaruul_close_points_if_not_already(x: &mut [f64], y: &mut [f64], n: usize) -> Told
     ensures { ClosesRun x.old y.old n result x.new y.new }
 {
     closing_told(rings::close_points_if_not_already(x, y, n))

@@ -37,8 +37,7 @@ pub struct Finished {
     pub shx: [u8; 100],
 }
 
-#[unsafe(no_mangle)]
-pub extern "C" fn mbenaruul_new() -> State
+pub fn mbenaruul_new() -> State
     ensures { result ≡ fresh }
 {
     State::new()
@@ -80,8 +79,7 @@ fn add_answer(a: AddAnswer, state: State) -> Added
     }
 }
 
-#[unsafe(no_mangle)]
-pub extern "C" fn mbenaruul_add_record(
+pub fn mbenaruul_add_record(
     state: State,
     code: i32,
     bbox: BBoxZ,
@@ -103,8 +101,7 @@ pub extern "C" fn mbenaruul_add_record(
 }
 
 // The same over a state that is lent, and advanced by the call; a refusal leaves it as it is.
-#[unsafe(no_mangle)]
-pub extern "C" fn mbenaruul_write_shape(
+pub fn mbenaruul_write_shape(
     state: &mut State,
     code: i32,
     bbox: BBoxZ,
@@ -137,8 +134,7 @@ fn finish_refusal(a: FinishAnswer) -> Refusal
     }
 }
 
-#[unsafe(no_mangle)]
-pub extern "C" fn mbenaruul_finish(state: State) -> Finished
+pub fn mbenaruul_finish(state: State) -> Finished
     ensures { result ≡ finished state }
 {
     let r = writer::finish(state);

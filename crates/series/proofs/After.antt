@@ -17,6 +17,7 @@ use Rattle.writer.proofs.StateLaws.{fresh-fine}
 use Rattle.rules.specs.Meaning.{all_points}
 use Rattle.appending.specs.Files.{FileBehind, kind_with}
 use Rattle.appending.specs.OneMore.{Behind, state_kind}
+use Rattle.appending.proofs.Appends.{behind_none}
 use Rattle.appending.proofs.ToFile.{file_begins, appends_to_file}
 use Rattle.series.specs.Series.{Add, Call, adds, finishes, Made, state_after, accepted as shapes_accepted}
 use Rattle.series.specs.Taken.{AddMade, taken, shapes_taken, first_kind, AcceptedTaken}
@@ -86,7 +87,7 @@ accepted_taken (finishes f ∷ calls) = accepted_taken calls
 
 -- a state behind shapes of a kind names that kind
 named : (k : Kind) (ss : List Shape) (s : State) → Behind k ss s → Behind (state_kind s) ss s
-named k [] s b = record { words = b.words; number = b.number; kind = b.kind; points = b.points; held = b.held }
+named k [] s b = behind_none k (state_kind s) s b
 named k (x ∷ ss) s b = subst (λ (i : Kind). Behind i (x ∷ ss) s) (sym (ap kind_or b.kind)) b
 
 pub behind-accepted : BehindAccepted

@@ -8,7 +8,6 @@ use lib.Dec.{lit≤}
 use lib.IntN.{nat_abs}
 use lib.ListN.{length, drop}
 use borrow.Author.Rules.{rules}
-use borrow.Author.Tests.{not-true, not-false}
 use Rattle.format.specs.Said.{Said}
 use Rattle.rules.specs.Rules.{Counts, big_at, P13, parts_long, rings_closed, finites, none_yet, walk_from}
 use Rattle.rules.proofs.Turns.{Part, part, parts_go, parts_no, parts_done, rings_go, rings_no, rings_done, finites_go, finites_no, finites_done}

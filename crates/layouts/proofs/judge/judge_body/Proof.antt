@@ -4,7 +4,6 @@ use mathlib.Core.Bool.{true, cond}
 use Prim.Native.Nat.{◌+◌, ◌*◌}
 use native.Mathlib.Omega.{arith}
 use borrow.Author.Rules.{rules}
-use borrow.Author.Tests.{not-true, not-false}
 use lib.Dec.{eqb}
 use lib.ListN.{length}
 use Rattle.layouts.specs.Steps.{measure_size, front_size}

@@ -2,7 +2,6 @@
 use mathlib.Core.Path.{◌≡◌, sym, ◌∙◌}
 use mathlib.Core.Bool.{true}
 use borrow.Author.Rules.{rules}
-use borrow.Author.Tests.{not-true, not-false}
 use Rattle.rules.specs.Rules.{length_right, finites, P7}
 use Rattle.pair.specs.Verdicts.{back_fault}
 use Rattle.pair.proofs.heads.back_fault.Statement.{statement}

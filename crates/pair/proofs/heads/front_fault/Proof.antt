@@ -1,7 +1,7 @@
 -- `pair::heads::front_fault` meets its contract: the tests in order.
 use mathlib.Core.Path.{sym, ◌∙◌}
 use borrow.Author.Rules.{rules}
-use borrow.Author.Tests.{le-leb, lt-leb, not-true, not-false}
+use borrow.Author.Tests.{le-leb, lt-leb}
 use Rattle.pair.specs.Verdicts.{front_fault}
 use Rattle.pair.proofs.heads.front_fault.Statement.{statement}
 use Rattle.pair.proofs.heads.front_fault.Tie as tie

@@ -6,7 +6,6 @@ use Prim.Native.Nat.{ℕ, ◌+◌, ◌≤◌}
 use native.Mathlib.Omega.{arith}
 use borrow.Author.Rules.{rules}
 use lib.ListN.{length, drop, length-drop}
-use borrow.Author.Tests.{not-true, not-false}
 use Rattle.format.specs.declared.kinds.Kind.{Kind}
 use Rattle.rules.specs.Rules.{P9, P10}
 use Rattle.rules.proofs.HeadLaws.{told9, told10}

@@ -1,7 +1,6 @@
 -- `pair::heads::headers_agree` meets its contract: by the bytes before the length and then those behind it.
 use mathlib.Core.Path.{sym, ◌∙◌}
 use borrow.Author.Rules.{rules}
-use borrow.Author.Tests.{not-true, not-false}
 use Rattle.pair.proofs.heads.headers_agree.Statement.{statement}
 use Rattle.pair.proofs.heads.headers_agree.Tie as tie
 

@@ -1,7 +1,6 @@
 -- `pair::heads::index_sized` meets its contract: by the length and then the rest.
 use mathlib.Core.Path.{sym, ◌∙◌}
 use borrow.Author.Rules.{rules}
-use borrow.Author.Tests.{not-true, not-false}
 use Rattle.pair.proofs.heads.index_sized.Statement.{statement}
 use Rattle.pair.proofs.heads.index_sized.Tie as tie
 

@@ -1,7 +1,7 @@
 -- `pair::heads::starts_right` meets its contract: by the code, the unused bytes and the version.
 use mathlib.Core.Path.{sym, ◌∙◌}
 use borrow.Author.Rules.{rules}
-use borrow.Author.Tests.{eq-eqb, ne_eqb, not-true, not-false}
+use borrow.Author.Tests.{eq-eqb, ne_eqb}
 use Rattle.pair.proofs.heads.starts_right.Statement.{statement}
 use Rattle.pair.proofs.heads.starts_right.Tie as tie
 

@@ -2,7 +2,6 @@
 use mathlib.Core.Path.{◌≡◌, refl, sym, ◌∙◌}
 use Prim.Native.Nat.{◌+◌, ◌*◌}
 use native.Mathlib.Omega.{arith}
-use borrow.Author.Tests.{not-true, not-false}
 use Rattle.rules.specs.Rules.{finites}
 use Rattle.rules.proofs.Turns.{finites_go, finites_no, finites_done}
 use Rattle.pair.proofs.leaves.all_finite.Statement.{statement}

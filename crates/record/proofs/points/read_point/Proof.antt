@@ -1,7 +1,6 @@
 -- `record::points::read_point` meets its contract: the size, then the doubles, of which the first one cut decides.
 use mathlib.Core.Path.{sym, ◌∙◌}
 use mir.Syntax.{w32}
-use borrow.Author.Tests.{not-true, not-false}
 use borrow.Author.Rules.{rules}
 use Rattle.format.proofs.SignLaws.{back}
 use Rattle.record.proofs.PointLaws.{other_size, point_cut, point-whole}

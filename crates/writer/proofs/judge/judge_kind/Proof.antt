@@ -4,7 +4,6 @@ use mathlib.Core.Bool.{true}
 use mir.Syntax.{w32}
 use mir.Val.{SFits}
 use mir.ValLaws.{to_z-of_z}
-use borrow.Author.Tests.{not-true, not-false}
 use borrow.Author.Rules.{rules}
 use Rattle.format.proofs.UnitLaws.{bits_same, bits_differ}
 use Rattle.writer.specs.declared.states.Looked.TheVariants.{Taken}
