@@ -13,12 +13,15 @@ use lib.ListN.{length, get_or, get_elem?, drop}
 use lib.Seq.{drop-cons}
 use lib.Signed.{lt_z}
 use mir.Val.{sel}
+use Rattle.std.specs.List.{position_or_len}
+use Rattle.std.proofs.lemmas.List.Recursion.{is_position_or_len}
+use Rattle.std.specs.Prelude as Std
+use Rattle.std.specs.Prelude.{Result, Ok, Err}
 use borrow.Author.Tests.{ltb-true, ltb-false, eq-eqb, eqb-true, ne_eqb}
 use Rattle.format.specs.declared.kinds.Kind.{Kind}
-use Rattle.format.specs.declared.kinds.Found.{Found}
-use Rattle.format.specs.declared.kinds.Found.TheVariants.{Is, Unknown}
+use Rattle.format.specs.declared.kinds.UnknownKind.{UnknownKind}
 use Rattle.format.specs.Encoding.{Held}
-use Rattle.format.specs.Kinds.{kinds, row_of, row_at, kind_at, said_found, or_unknown, kind_of, known}
+use Rattle.format.specs.Kinds.{kinds, kinds_passed, row_of, row_at, kind_at, said_found, or_unknown, kind_of, known}
 use Rattle.format.specs.Lengths.{Form, nothing, one_point, many_points, is_multipoint, form_of}
 use Rattle.format.specs.Lengths
 use Rattle.format.specs.WellFormed.{has_rings}
@@ -37,6 +40,29 @@ module _ (code : ℕ) (l : List Kind) (d : Kind) (i : ℕ) (h : i < length l) wh
   pub row_on : ((get_or l i d).code ≡ code → ⊥) → row_of code (drop i l) ≡ suc (row_of code (drop (i + 1) l))
   unfolding row_of
   row_on e = rw (add-one, drop-cons l i d h, ne_eqb _ _ e)
+
+-- a search by the code passes as many rows, and no more than there are
+rows_passed : (code : ℕ) (l : List Kind) → row_of code l ≡ position_or_len (λ (k : Kind). eqb k.code code) l
+unfolding row_of
+rows_passed code l = is_position_or_len (row_of code) (λ (k : Kind). eqb k.code code) refl (λ x xs. ap (cond (eqb x.code code) 0) (omega arith)) l
+
+few : (code : ℕ) (l : List Kind) → row_of code l ≤ length l
+unfolding row_of
+few code [] = omega arith
+few code (k ∷ l) = one_more (eqb k.code code) (few code l)
+  where
+    one_more : {n m : ℕ} (b : Bool) → n ≤ m → cond b 0 (suc n) ≤ suc m
+    one_more true h = omega arith
+    one_more false h = omega arith
+
+pub row_found : (code : ℕ) (l : List Kind) (r : Std.Option ℕ)
+    → r ≡ cond (ltb (position_or_len (λ (k : Kind). eqb k.code code) l) (length l)) (Std.Some (position_or_len (λ (k : Kind). eqb k.code code) l)) Std.None
+    → length l ≡ length kinds → kinds_passed r ≡ row_of code l
+row_found code l r e m = go (ltb (row_of code l) (length l)) refl (rw (← rows_passed code l) at e)
+  where
+    go : (b : Bool) → ltb (row_of code l) (length l) ≡ b → r ≡ cond b (Std.Some (row_of code l)) Std.None → kinds_passed r ≡ row_of code l
+    go true t q = ap kinds_passed q
+    go false t q = ap kinds_passed q ∙ omega (arith, m, few code l, ltb-false _ _ t)
 
 -- the row that is found has the code
 row_by : (b : Bool) (n : ℕ) (h : Kind) (l : List Kind) (k : Kind) → eqb h.code n ≡ b → (get_elem? l (row_of n l) ≡ some k → k.code ≡ n) → get_elem? (h ∷ l) (cond b 0 (suc (row_of n l))) ≡ some k → k.code ≡ n
@@ -104,13 +130,13 @@ module _ (z : ℤ) (k : Kind) (e : kind_at z ≡ some k) where
 
 -- ---- what the lookup says of the row
 
-module _ (z : ℤ) (r : Found) (e : said_found r ≡ kind_of z) where
+module _ (z : ℤ) (r : Result Kind UnknownKind) (e : said_found r ≡ kind_of z) where
   -- whether the code is known, by what was found
-  pub known_found : (r' : Found) → r ≡ r' → known z ≡ is_given (said_found r')
+  pub known_found : (r' : Result Kind UnknownKind) → r ≡ r' → known z ≡ is_given (said_found r')
   unfolding known
   known_found r' f = ap is_given (sym e ∙ ap said_found f)
 
-  pub kind_found : (k : Kind) → r ≡ Is k → kind_at z ≡ some k
+  pub kind_found : (k : Kind) → r ≡ Ok k → kind_at z ≡ some k
   unfolding kind_of
   kind_found k f = go (kind_at z) (ap said_found (sym f) ∙ e)
     where
@@ -118,13 +144,22 @@ module _ (z : ℤ) (r : Found) (e : said_found r ≡ kind_of z) where
       go none q = absurd (let z : ◌≡◌ {A = ℕ} 0 1 = cc in omega arith)
       go (some x) q = cc
 
-  pub none_found : (code : ℤ) → r ≡ Unknown code → kind_at z ≡ none
+  pub none_found : (f : UnknownKind) → r ≡ Err f → kind_at z ≡ none
   unfolding kind_of
-  none_found code f = go (kind_at z) (ap said_found (sym f) ∙ e)
+  none_found f q = go (kind_at z) (ap said_found (sym q) ∙ e)
     where
-      go : (o : Option Kind) → unknown code ≡ or_unknown z o → o ≡ none
+      go : (o : Option Kind) → unknown f.0 ≡ or_unknown z o → o ≡ none
       go none q = refl
       go (some x) q = absurd (let z : ◌≡◌ {A = ℕ} 0 1 = cc in omega arith)
+
+  -- the code that is refused is the one that was asked
+  pub named_code : (f : UnknownKind) → r ≡ Err f → f.0 ≡ z
+  unfolding kind_of
+  named_code f q = go (kind_at z) (ap said_found (sym q) ∙ e)
+    where
+      go : (o : Option Kind) → unknown f.0 ≡ or_unknown z o → f.0 ≡ z
+      go none p = cc
+      go (some x) p = cc
 
 pub known-there : (z : ℤ) → known z ≡ there (kind_at z)
 unfolding known kind_of

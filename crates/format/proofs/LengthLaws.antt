@@ -12,10 +12,10 @@ use mir.Syntax.{w32}
 use mir.Val.{SFits, of_z}
 use borrow.Author.Tests.{ltb-true, ltb-false, eqb-true}
 use Rattle.format.specs.declared.kinds.Kind.{Kind}
-use Rattle.format.specs.declared.lengths.Content.{Content}
-use Rattle.format.specs.declared.lengths.Content.TheVariants.{Taken, NotTaken, Unknown}
-use Rattle.format.specs.declared.lengths.Counted.{Counted}
-use Rattle.format.specs.declared.lengths.Counted.TheVariants.{Is, Long}
+use Rattle.format.specs.declared.lengths.KindError.{KindError}
+use Rattle.format.specs.declared.lengths.KindError.TheVariants.{Unknown, NotTaken}
+use Rattle.std.specs.Prelude.{Result, Ok, Err}
+use Rattle.std.specs.Prelude as Std
 use Rattle.format.specs.declared.lengths.Formula.{Formula}
 use Rattle.format.specs.declared.lengths.Lengths.{Lengths}
 use Rattle.format.specs.declared.units.Words.{Words}
@@ -87,36 +87,36 @@ module _ (k : Kind) where
       go false false false false e = cc
 
   -- as `lengths_of` says it
-  module _ (z : ℤ) (e : kind_at z ≡ some k) (c : Content) (f : said_content c ≡ content_of z) where
-    said : (c' : Content) → c ≡ c' → said_content c' ≡ or_not_taken z (lengths_of k)
+  module _ (z : ℤ) (e : kind_at z ≡ some k) (c : Result Lengths KindError) (f : said_content c ≡ content_of z) where
+    said : (c' : Result Lengths KindError) → c ≡ c' → said_content c' ≡ or_not_taken z (lengths_of k)
     said c' g = ap said_content (sym g) ∙ (f ∙ content-at z k e)
 
-    pub content-none : (code : ℤ) → c ≡ NotTaken code → form_of k ≡ none
+    pub content-none : (code : ℤ) → c ≡ Err (NotTaken code) → form_of k ≡ none
     unfolding lengths_of
-    content-none code g = go (form_of k) (said (NotTaken code) g)
+    content-none code g = go (form_of k) (said (Err (NotTaken code)) g)
       where
         go : (o : Option Form) → not_taken code ≡ or_not_taken z (map (lengths_for k) o) → o ≡ none
         go none q = refl
         go (some form) q = absurd (let z : ◌≡◌ {A = ℕ} 0 1 = cc in omega arith)
 
-    pub content_some : (l : Lengths) → c ≡ Taken l → lengths_of k ≡ some l
-    content_some l g = go (lengths_of k) (said (Taken l) g)
+    pub content_some : (l : Lengths) → c ≡ Ok l → lengths_of k ≡ some l
+    content_some l g = go (lengths_of k) (said (Ok l) g)
       where
         go : (o : Option Lengths) → gives l ≡ or_not_taken z o → o ≡ some l
         go none q = absurd (let z : ◌≡◌ {A = ℕ} 0 1 = cc in omega arith)
         go (some x) q = cc
 
     -- a kind of the table is not unknown
-    pub content-known : (code : ℤ) → c ≡ Unknown code → ⊥
-    content-known code g = go (lengths_of k) (said (Unknown code) g)
+    pub content-known : (code : ℤ) → c ≡ Err (Unknown code) → ⊥
+    content-known code g = go (lengths_of k) (said (Err (Unknown code)) g)
       where
         go : (o : Option Lengths) → unknown code ≡ or_not_taken z o → ⊥
         go none q = let z : ◌≡◌ {A = ℕ} 4 9 = cc in omega arith
         go (some x) q = let z : ◌≡◌ {A = ℕ} 0 1 = cc in omega arith
 
 -- and of a code whose kind is not looked up apart
-module _ (z : ℤ) (c : Content) (f : said_content c ≡ content_of z) where
-  pub told-unknown : (code : ℤ) → c ≡ Unknown code → kind_at z ≡ none
+module _ (z : ℤ) (c : Result Lengths KindError) (f : said_content c ≡ content_of z) where
+  pub told-unknown : (code : ℤ) → c ≡ Err (Unknown code) → kind_at z ≡ none
   told-unknown code g = go (kind_at z) refl
     where
       go : (o : Option Kind) → kind_at z ≡ o → o ≡ none
@@ -232,8 +232,8 @@ some_words one_point z m p n = least _ _ _ (omega arith)
 some_words many_points z m p n = least _ _ _ (omega arith)
 some_words parts z m p n = least _ _ _ (omega arith)
 
-module _ (f : Formula) (p n : ℕ) (c : Counted) (e : said_counted c ≡ counted f p n) where
-  pub counted-long : c ≡ Long → 2 ^ 31 ≤ formula_words f p n
+module _ (f : Formula) (p n : ℕ) (c : Std.Option Words) (e : said_counted c ≡ counted f p n) where
+  pub counted-long : c ≡ Std.None → 2 ^ 31 ≤ formula_words f p n
   unfolding counted
   counted-long g = by (ltb (formula_words f p n) (2 ^ 31)) refl (ap said_counted (sym g) ∙ e)
     where
@@ -241,7 +241,7 @@ module _ (f : Formula) (p n : ℕ) (c : Counted) (e : said_counted c ≡ counted
       by true t q = absurd (let z : ◌≡◌ {A = ℕ} 0 1 = cc in omega arith)
       by false t q = ltb-false _ _ t
 
-  pub counted-held : (w : Words) → c ≡ Is w → (formula_words f p n < 2 ^ 31) × (w ≡ record { 0 = pos (formula_words f p n) })
+  pub counted-held : (w : Words) → c ≡ Std.Some w → (formula_words f p n < 2 ^ 31) × (w ≡ record { 0 = pos (formula_words f p n) })
   unfolding counted
   counted-held w g = by (ltb (formula_words f p n) (2 ^ 31)) refl (ap said_counted (sym g) ∙ e)
     where
@@ -250,13 +250,13 @@ module _ (f : Formula) (p n : ℕ) (c : Counted) (e : said_counted c ≡ counted
       by false t q = absurd (let z : ◌≡◌ {A = ℕ} 0 1 = cc in omega arith)
 
 -- so whether it comes to some words is settled by the counting
-module _ (f : Formula) (p n : ℕ) (words : Words) (h : SFits w32 words.0) (c : Counted) (e : said_counted c ≡ counted f p n) where
-  pub comes-to : (w : Words) → c ≡ Is w → eqb (of_z w32 w.0) (of_z w32 words.0) ≡ same_int words.0 (pos (formula_words f p n))
+module _ (f : Formula) (p n : ℕ) (words : Words) (h : SFits w32 words.0) (c : Std.Option Words) (e : said_counted c ≡ counted f p n) where
+  pub comes-to : (w : Words) → c ≡ Std.Some w → eqb (of_z w32 w.0) (of_z w32 words.0) ≡ same_int words.0 (pos (formula_words f p n))
   comes-to w g =
       let k = counted-held f p n c e w g in
       ap (λ (x : Words). eqb (of_z w32 x.0) (of_z w32 words.0)) k.1 ∙ by_bits w32 words.0 (pos (formula_words f p n)) h (record { sfits = k.0 })
 
-  pub too_long : c ≡ Long → false ≡ same_int words.0 (pos (formula_words f p n))
+  pub too_long : c ≡ Std.None → false ≡ same_int words.0 (pos (formula_words f p n))
   too_long g = sym (same_no words.0 (pos (formula_words f p n)) (λ q. over words.0 q h (counted-long f p n c e g)))
     where
       over : (z : ℤ) → z ≡ pos (formula_words f p n) → SFits w32 z → 2 ^ 31 ≤ formula_words f p n → ⊥

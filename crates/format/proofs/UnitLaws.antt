@@ -9,10 +9,10 @@ use lib.Signed.{lt_z, mag, shr_z, mag_shr}
 use mir.Syntax.{Width, w32, w64}
 use mir.Val.{SFits, to_z, of_z}
 use mir.ValLaws.{to_z-of_z, sfits_le}
+use Rattle.std.specs.Prelude.{Result, Ok, Err}
 use borrow.Author.Tests.{lt-ltb, le-ltb, ltb-true, ltb-false, eq-eqb, ne_eqb, eqb-true, eqb-false}
 use Rattle.format.specs.declared.units.Bytes.{Bytes}
-use Rattle.format.specs.declared.units.InWords.{InWords}
-use Rattle.format.specs.declared.units.InWords.TheVariants.{Is, Not}
+use Rattle.format.specs.declared.units.NotWords.{NotWords}
 use Rattle.format.specs.declared.units.Words.{Words}
 use Rattle.format.specs.Said.{gives, wrong_size}
 use Rattle.format.specs.Units.{same_int, in_i32, half, said_words, in_words}
@@ -110,11 +110,11 @@ module _ (b : Bytes) where
   is-half h e = rw (lt-ltb (mag (half b)) (2 ^ 31) h, same_yes (half b +ℤ half b) b.0 e)
 
 -- and what its answer tells of the bytes: they are the words doubled, or no number of words doubled
-module _ (b : Bytes) (r : InWords) (e : said_words r ≡ in_words b) where
+module _ (b : Bytes) (r : Result Words NotWords) (e : said_words r ≡ in_words b) where
   abbrev fits : Bool
   fits = in_i32 (half b) && same_int (half b +ℤ half b) b.0
 
-  pub words_doubled : (w : Words) → r ≡ Is w → w.0 +ℤ w.0 ≡ b.0
+  pub words_doubled : (w : Words) → r ≡ Ok w → w.0 +ℤ w.0 ≡ b.0
   unfolding in_words
   words_doubled w g = go fits refl (ap said_words (sym g) ∙ e)
     where
@@ -124,9 +124,9 @@ module _ (b : Bytes) (r : InWords) (e : said_words r ≡ in_words b) where
           ap (λ (x : Words). x.0 +ℤ x.0) h ∙ same_is (half b +ℤ half b) b.0 (both_true (in_i32 (half b)) (same_int (half b +ℤ half b) b.0) t).1
       go false t q = absurd (let z : ◌≡◌ {A = ℕ} 0 1 = cc in omega arith)
 
-  pub no_words : r ≡ Not → (n : ℕ) → n < 2 ^ 31 → b.0 ≡ pos (2 * n) → ⊥
+  pub no_words : (f : NotWords) → r ≡ Err f → (n : ℕ) → n < 2 ^ 31 → b.0 ≡ pos (2 * n) → ⊥
   unfolding in_words
-  no_words g n h d = go fits refl (ap said_words (sym g) ∙ e)
+  no_words f g n h d = go fits refl (ap said_words (sym g) ∙ e)
     where
       half_is : half b ≡ pos n
       half_is = ap (λ (z : ℤ). shr_z z 2) d ∙ ap pos (omega arith)
@@ -134,6 +134,6 @@ module _ (b : Bytes) (r : InWords) (e : said_words r ≡ in_words b) where
       go : (t : Bool) → fits ≡ t → wrong_size {A = Words} 0 ≡ cond t (gives (record { 0 = half b })) (wrong_size 0) → ⊥
       go true t q = let z : ◌≡◌ {A = ℕ} 0 1 = cc in omega arith
       go false t q =
-          let f : fits ≡ true = rw (half_is, d, lt-ltb n (2 ^ 31) h, eq-eqb (n + n) (2 * n) (omega arith)) in
-          let z : ◌≡◌ {A = Bool} true false = sym f ∙ t in
+          let t' : fits ≡ true = rw (half_is, d, lt-ltb n (2 ^ 31) h, eq-eqb (n + n) (2 * n) (omega arith)) in
+          let z : ◌≡◌ {A = Bool} true false = sym t' ∙ t in
           subst T z tt

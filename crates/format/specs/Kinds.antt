@@ -1,10 +1,10 @@
 -- The fourteen kinds of shape, as document 01's table has them: the code, and whether the kind has z, m and parts.
-use Rattle.std.specs.Prelude.{Bool, true, false, cond, List, [], ◌∷◌, ℕ, suc, eqb, length, ℤ, pos, negsuc}
+use Rattle.std.specs.Prelude.{Bool, true, false, cond, List, [], ◌∷◌, ℕ, suc, eqb, length, ℤ, pos, negsuc, Result, Ok, Err}
+use Rattle.std.specs.Prelude as Std
 use Rattle.std.proofs.Math.Option.{Option, none, some}
 use Rattle.std.proofs.Math.ListN.{get_elem?}
 use Rattle.format.specs.declared.kinds.Kind.{Kind}
-use Rattle.format.specs.declared.kinds.Found.{Found}
-use Rattle.format.specs.declared.kinds.Found.TheVariants.{Is, Unknown}
+use Rattle.format.specs.declared.kinds.UnknownKind.{UnknownKind}
 use Rattle.format.specs.Said.{Said, gives, unknown, is_given}
 
 abbrev pub kind : ℕ → Bool → Bool → Bool → Kind
@@ -42,6 +42,11 @@ abbrev pub row_at : ℤ → ℕ
 row_at (pos n) = row_of n kinds
 row_at (negsuc n) = length kinds
 
+-- how many rows a search has passed: those in front of the row that it found, or all
+abbrev pub kinds_passed : Std.Option ℕ → ℕ
+kinds_passed (Std.Some row) = row
+kinds_passed Std.None = length kinds
+
 -- the kind with this code, where the table has it
 abbrev pub kind_at : ℤ → Option Kind
 kind_at (pos n) = get_elem? kinds (row_of n kinds)
@@ -53,9 +58,9 @@ kind_or none = null_kind
 kind_or (some k) = k
 
 -- what `find_kind` answers, in document 01's terms
-abbrev pub said_found : Found → Said Kind
-said_found (Is k) = gives k
-said_found (Unknown code) = unknown code
+abbrev pub said_found : Result Kind UnknownKind → Said Kind
+said_found (Ok k) = gives k
+said_found (Err e) = unknown e.0
 
 -- the kind with this code; a code that is not in the table is 4
 abbrev pub or_unknown : ℤ → Option Kind → Said Kind

@@ -1,13 +1,12 @@
 -- How long a shape's content is, in words and with the kind's own field, over the kind's flags: document 01's table of kinds.
-use Rattle.std.specs.Prelude.{Bool, true, false, cond, ◌||◌, [], ◌∷◌, ℕ, ◌+◌, ◌*◌, ◌^◌, eqb, ltb, ℤ, pos}
+use Rattle.std.specs.Prelude.{Bool, true, false, cond, ◌||◌, [], ◌∷◌, ℕ, ◌+◌, ◌*◌, ◌^◌, eqb, ltb, ℤ, pos, Result, Ok, Err}
+use Rattle.std.specs.Prelude as Std
 use Rattle.std.proofs.Math.Option.{Option, none, some, map}
 use Rattle.format.specs.declared.kinds.Kind.{Kind}
 use Rattle.format.specs.declared.lengths.Formula.{Formula}
 use Rattle.format.specs.declared.lengths.Lengths.{Lengths}
-use Rattle.format.specs.declared.lengths.Content.{Content}
-use Rattle.format.specs.declared.lengths.Content.TheVariants.{Taken, NotTaken, Unknown}
-use Rattle.format.specs.declared.lengths.Counted.{Counted}
-use Rattle.format.specs.declared.lengths.Counted.TheVariants.{Is, Long}
+use Rattle.format.specs.declared.lengths.KindError.{KindError}
+use Rattle.format.specs.declared.lengths.KindError.TheVariants.{Unknown, NotTaken}
 use Rattle.format.specs.declared.units.Words.{Words}
 use Rattle.format.specs.Kinds.{kind_at}
 use Rattle.format.specs.Order.{first}
@@ -106,10 +105,10 @@ unfoldable pub lengths_of : Kind → Option Lengths
 lengths_of k = map (lengths_for k) (form_of k)
 
 -- what `lengths_of` answers, in document 01's terms
-abbrev pub said_content : Content → Said Lengths
-said_content (Taken l) = gives l
-said_content (NotTaken code) = not_taken code
-said_content (Unknown code) = unknown code
+abbrev pub said_content : Result Lengths KindError → Said Lengths
+said_content (Ok l) = gives l
+said_content (Err (NotTaken code)) = not_taken code
+said_content (Err (Unknown code)) = unknown code
 
 -- the formulas of the kind with this code; a code that is not in the table is 4, and a kind that is not taken is 9
 abbrev pub or_not_taken : ℤ → Option Lengths → Said Lengths
@@ -124,9 +123,9 @@ unfoldable pub content_of : ℤ → Said Lengths
 content_of code = lengths_in code (kind_at code)
 
 -- what `content_words` answers
-abbrev pub said_counted : Counted → Said Words
-said_counted (Is w) = gives w
-said_counted Long = long
+abbrev pub said_counted : Std.Option Words → Said Words
+said_counted (Std.Some w) = gives w
+said_counted Std.None = long
 
 -- a formula's words for p parts and n points
 abbrev pub formula_words : Formula → ℕ → ℕ → ℕ

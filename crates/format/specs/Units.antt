@@ -1,10 +1,9 @@
 -- Lengths in words and in bytes: a word is two bytes.
-use Rattle.std.specs.Prelude.{Bool, false, ◌&&◌, [], ◌∷◌, ◌^◌, ltb, eqb, ℤ, pos, negsuc, ◌+ℤ◌}
+use Rattle.std.specs.Prelude.{Bool, false, ◌&&◌, [], ◌∷◌, ◌^◌, ltb, eqb, ℤ, pos, negsuc, ◌+ℤ◌, Result, Ok, Err}
 use Rattle.std.specs.Int.Signed.{mag, shr_z}
 use Rattle.format.specs.declared.units.Words.{Words}
 use Rattle.format.specs.declared.units.Bytes.{Bytes}
-use Rattle.format.specs.declared.units.InWords.{InWords}
-use Rattle.format.specs.declared.units.InWords.TheVariants.{Is, Not}
+use Rattle.format.specs.declared.units.NotWords.{NotWords}
 use Rattle.format.specs.Order.{first}
 use Rattle.format.specs.Said.{Said, gives, wrong_size}
 
@@ -22,10 +21,10 @@ in_i32 z = ltb (mag z) (2 ^ 31)
 abbrev pub in_bytes : Words → Bytes
 in_bytes w = record { 0 = w.0 +ℤ w.0 }
 
--- what `to_words` answers
-abbrev pub said_words : InWords → Said Words
-said_words (Is w) = gives w
-said_words Not = wrong_size 0
+-- what `Words::try_from` answers
+abbrev pub said_words : Result Words NotWords → Said Words
+said_words (Ok w) = gives w
+said_words (Err e) = wrong_size 0
 
 -- half of the bytes, rounded down
 abbrev pub half : Bytes → ℤ

@@ -1,8 +1,8 @@
 // The fourteen kinds of shape in one constant table, and the lookup by code.
-ghost use Rattle.std.specs.Prelude.{◌≡◌, ◌≤◌};
-ghost use Rattle.format.specs.Kinds.{kinds, row_of, row_at, said_found, kind_of};
+ghost use Rattle.std.specs.Prelude.{◌≡◌, ◌<◌, IfSome};
+ghost use Rattle.format.specs.Kinds.{kinds_passed, row_at, said_found, kind_of};
 
-#[derive(Clone, Copy)]
+#[derive(Clone, Copy, Debug, PartialEq, Eq)]
 pub struct Kind {
     pub code: u32,
     pub z: bool,
@@ -10,12 +10,9 @@ pub struct Kind {
     pub parts: bool,
 }
 
-// The kind of a code; or the code, where there is none.
-#[derive(Clone, Copy)]
-pub enum Found {
-    Is(Kind),
-    Unknown(i32),
-}
+// A code that the table does not have.
+#[derive(Clone, Copy, Debug, PartialEq, Eq)]
+pub struct UnknownKind(pub i32);
 
 const KINDS: [Kind; 14] = [
     Kind {
@@ -104,36 +101,21 @@ const KINDS: [Kind; 14] = [
     },
 ];
 
-// The row with this code, which is not negative; 14 where none has it.
-fn search(code: u32) -> usize
-    ensures { (result ≡ row_of code kinds) × (result ≤ 14) }
+// The row with this code, where the table has it.
+pub fn row_of(code: i32) -> Option<usize>
+    ensures row { kinds_passed result ≡ row_at code }
+    ensures in_table { IfSome result (λ i. i < 14) }
 {
-    let mut i = 0;
-    while i < 14 {
-        let k = KINDS[i];
-        if k.code == code {
-            return i;
-        }
-        i += 1;
-    }
-    14
-}
-
-// The row with this code; 14 where none has it.
-pub fn row_of(code: i32) -> usize
-    ensures { (result ≡ row_at code) × (result ≤ 14) }
-{
-    if code < 0 { 14 } else { search(code as u32) }
+    let code = u32::try_from(code).ok()?;
+    KINDS.iter().position(|kind| kind.code == code)
 }
 
 // The kind with this code.
-pub fn find_kind(code: i32) -> Found
+pub fn find_kind(code: i32) -> Result<Kind, UnknownKind>
     ensures { said_found result ≡ kind_of code }
 {
-    let i = row_of(code);
-    if i < 14 {
-        Found::Is(KINDS[i])
-    } else {
-        Found::Unknown(code)
+    match row_of(code) {
+        Some(row) => Ok(KINDS[row]),
+        None => Err(UnknownKind(code)),
     }
 }

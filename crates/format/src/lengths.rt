@@ -2,48 +2,45 @@
 ghost use Rattle.std.specs.Prelude.{◌≡◌, ◌+◌, ◌≤◌, pos};
 ghost use Rattle.format.specs.Lengths.{one_point, is_multipoint, has_several, given, several_form, formula, said_content, content_of, formula_words, said_counted, counted};
 ghost use Rattle.format.specs.Units.{same_int};
+ghost use Rattle.format.specs.declared.lengths.KindError.TheVariants.{Unknown};
 
-use crate::kinds::{Found, Kind, find_kind};
+use crate::kinds::{Kind, UnknownKind, find_kind};
 use crate::units::Words;
 
 // A content's words: the fixed ones, 2 for each part, and so many for each point.
-#[derive(Clone, Copy)]
+#[derive(Clone, Copy, Debug, PartialEq, Eq)]
 pub struct Formula {
     pub fixed: u16,
     pub point: u16,
 }
 
 // The formulas of a kind, without m and with m.
-#[derive(Clone, Copy)]
+#[derive(Clone, Copy, Debug, PartialEq, Eq)]
 pub struct Lengths {
     pub without: Formula,
     pub with: Formula,
 }
 
-// The formulas of a code's kind; or its code, where the kind is not taken, or where there is none.
-#[derive(Clone, Copy)]
-pub enum Content {
-    Taken(Lengths),
-    NotTaken(i32),
+// Why a code has no formulas: the table does not have it, or its kind is not taken.
+#[derive(Clone, Copy, Debug, PartialEq, Eq)]
+pub enum KindError {
     Unknown(i32),
+    NotTaken(i32),
 }
 
-// What a formula comes to; long, where an i32 does not hold it.
-#[derive(Clone, Copy)]
-pub enum Counted {
-    Is(Words),
-    Long,
+impl From<UnknownKind> for KindError {
+    ghost from_gives = { λ e r. r ≡ Unknown e.0 };
+
+    fn from(e: UnknownKind) -> KindError {
+        KindError::Unknown(e.0)
+    }
 }
 
 // 8, 18 and 28 are multipoints.
 fn is_multipoint(k: Kind) -> bool
     ensures { result ≡ is_multipoint k }
 {
-    let code = k.code;
-    match code {
-        8 | 18 | 28 => true,
-        _ => false,
-    }
+    matches!(k.code, 8 | 18 | 28)
 }
 
 // Whether a kind has several points, in parts or as a multipoint.
@@ -121,44 +118,42 @@ fn of_several(in_parts: bool, z: bool, m: bool) -> Formula
 }
 
 // The formulas of the kind with this code. Null and a point have one; several points may lack the m of their kind.
-pub fn lengths_of(code: i32) -> Content
+pub fn lengths_of(code: i32) -> Result<Lengths, KindError>
     ensures { said_content result ≡ content_of code }
 {
-    let Found::Is(k) = find_kind(code) else {
-        return Content::Unknown(code);
-    };
+    let k = find_kind(code)?;
     // a multipatch
     if k.code == 31 {
-        return Content::NotTaken(code);
+        return Err(KindError::NotTaken(code));
     }
     if k.code == 0 {
-        return Content::Taken(Lengths {
+        return Ok(Lengths {
             without: OF_NULL,
             with: OF_NULL,
         });
     }
     if has_several(k) {
-        return Content::Taken(Lengths {
+        return Ok(Lengths {
             without: of_several(k.parts, k.z, false),
             with: of_several(k.parts, k.z, k.m),
         });
     }
     let point = of_point(k.z, k.m);
-    Content::Taken(Lengths {
+    Ok(Lengths {
         without: point,
         with: point,
     })
 }
 
-// The words of a content with p parts and n points.
-pub fn content_words(f: Formula, p: u32, n: u32) -> Counted
+// The words of a content with p parts and n points, where an i32 holds them.
+pub fn content_words(f: Formula, p: u32, n: u32) -> Option<Words>
     ensures { said_counted result ≡ counted f p n }
 {
     let words = (f.fixed as u64) + 2 * (p as u64) + (f.point as u64) * (n as u64);
     if words < 0x8000_0000 {
-        Counted::Is(Words(words as i32))
+        Some(Words(words as i32))
     } else {
-        Counted::Long
+        None
     }
 }
 
@@ -167,7 +162,7 @@ pub fn comes_to(f: Formula, p: u32, n: u32, words: Words) -> bool
     ensures { result ≡ same_int words.0 (pos (formula_words f p n)) }
 {
     match content_words(f, p, n) {
-        Counted::Is(w) => w.0 == words.0,
-        Counted::Long => false,
+        Some(w) => w.0 == words.0,
+        None => false,
     }
 }

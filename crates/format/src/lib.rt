@@ -3,4 +3,5 @@
 
 pub mod kinds;
 pub mod lengths;
+pub mod shapes;
 pub mod units;

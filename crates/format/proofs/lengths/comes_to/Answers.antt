@@ -3,8 +3,8 @@ use Rattle.std.proofs.Common.{rules}
 use Rattle.format.proofs.LengthLaws.{comes-to, too_long}
 use Rattle.format.proofs.lengths.comes_to.Goals as goal
 
-pub returns-in-Is : goal.returns-in-Is
-returns-in-Is c = comes-to c.args.f c.args.p c.args.n c.args.words (search rules) _ c.content_words.ensures _ c.in-Is.is
+pub returns-in-Some : goal.returns-in-Some
+returns-in-Some c = comes-to c.args.f c.args.p c.args.n c.args.words (search rules) _ c.content_words.ensures _ c.in-Some.is
 
-pub returns-in-Long : goal.returns-in-Long
-returns-in-Long c = too_long c.args.f c.args.p c.args.n c.args.words (search rules) _ c.content_words.ensures c.in-Long.is
+pub returns-in-None : goal.returns-in-None
+returns-in-None c = too_long c.args.f c.args.p c.args.n c.args.words (search rules) _ c.content_words.ensures c.in-None.is
