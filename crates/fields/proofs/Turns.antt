@@ -1,46 +1,60 @@
 -- One turn of each loop of the crate, in the loop's own terms: what is left to do before the turn is the turn and what is left after it.
-use mathlib.Core.Path.{◌≡◌, sym, ap, ◌∙◌}
-use mathlib.Core.List.{List}
-use Prim.Native.Nat.{ℕ, suc, ◌+◌, ◌*◌, ◌-◌, ◌/◌, ◌%◌, ◌^◌, ◌≤◌, ◌<◌}
-use native.Mathlib.Nat.{mul-suc, lt_of_lt_of_le}
+use mathlib.Core.Path.{◌≡◌, sym, ap, ap₂, ◌∙◌}
+use mathlib.Core.List.{List, [], ◌∷◌, reverse, reverse-cons}
+use Prim.Native.Nat.{ℕ, zero, suc, ◌+◌, ◌*◌, ◌-◌, ◌/◌, ◌%◌, ◌^◌, ◌≤◌, ◌<◌}
+use native.Mathlib.Nat.{mod-eq_of_lt}
 use native.Mathlib.Numerals.{add-one}
 use native.Mathlib.Omega.{arith}
-use lib.Arith.{digits_lt}
 use lib.Ieee.{Float}
-use lib.Pow.{pow-add, pow_mono}
-use lib.ListN.{length, get_or, drop, set}
-use lib.Seq.{sets, drop-cons}
+use lib.Pow.{pow_mono}
+use lib.ListN.{length, get_or, take, drop, set, length-drop}
+use lib.Seq.{sets, drop-cons, take-suc, get_or-drop}
 use Rattle.format.specs.Bytes.{le, be, le_bytes, be_bytes, field}
 use Rattle.format.specs.Numbers.{f64_le, f64s_le}
-use Rattle.format.proofs.ByteLaws.{le_more, be_more, sets-be}
+use Rattle.std.specs.List.{fold}
+use Rattle.std.specs.Int.RustNames.{bit_or}
+use Rattle.std.proofs.lemmas.List.Sums.{fold-append}
+use Rattle.std.proofs.lemmas.Nat.{or_shifted}
+use Rattle.format.proofs.ByteLaws.{all_bytes, le-none, be-none, field-none, field-cons, le_more, be_more, le_field_lt, be_field_lt, sets-be}
 use Rattle.format.proofs.Equations.{le_bytes_suc, f64s_le-cons}
 use Rattle.format.proofs.LayoutLaws.{sets-append}
 use Rattle.format.proofs.NumberLaws.{length-f64_le}
 
--- ---- reading a number, the high digit first
+-- ---- reading a number: each byte goes in behind those in front of it
 
-pub le_turn : (s : List ℕ) (k at i n b : ℕ) → 0 < i → i ≤ k → at + k ≤ length s → n ≡ le (field (k - i) (at + i) s) → b ≡ get_or s (at + (i - 1)) 0 → n * 256 + b ≡ le (field (k - (i - 1)) (at + (i - 1)) s)
-le_turn s k at i n b p q r e f =
-    let w : k - (i - 1) ≡ suc (k - i) = omega arith in
-    let a : suc (at + (i - 1)) ≡ at + i = omega arith in
-    let x : le (field (k - i) (suc (at + (i - 1))) s) ≡ le (field (k - i) (at + i) s) = rw a in
-    rw w (omega (arith, le_more s (k - i) (at + (i - 1)) (omega arith)))
+-- what a step makes of a byte and the number so far
+abbrev pub with_byte : ℕ → ℕ → ℕ
+with_byte n b = bit_or (n * 2 ^ 8 % 2 ^ 64) b
 
-pub be_turn : (s : List ℕ) (k at i n b : ℕ) → i < k → at + k ≤ length s → n ≡ be (field i at s) → b ≡ get_or s (at + i) 0 → n * 256 + b ≡ be (field (i + 1) at s)
-be_turn s k at i n b p r e f = rw add-one (omega (arith, be_more s i at (omega arith)))
+behind : (m n b : ℕ) → m < 8 → n < 2 ^ (8 * m) → b < 256 → with_byte n b ≡ b + 256 * n
+behind m n b h k l =
+    let e : 8 * m ≤ 56 = omega arith in
+    let p : 2 ^ (8 * m) ≤ 2 ^ 56 = pow_mono e in
+    let q : n * 2 ^ 8 % 2 ^ 64 ≡ n * 2 ^ 8 = mod-eq_of_lt (omega arith) in
+    rw q (omega (arith, or_shifted n 8 b l))
 
--- a number of m bytes and one byte more
-more_lt : (m : ℕ) {n b : ℕ} → n < 2 ^ (8 * m) → b < 256 → n * 256 + b < 2 ^ (8 * suc m)
-more_lt m p q = rw (mul-suc 8 m, pow-add 2 (8 * m) 8) (digits_lt p q)
+module _ (s : List ℕ) (bytes : (i : ℕ) → get_or s i 0 < 256) where
+  pub be_folded : (k at : ℕ) → k ≤ 8 → at + k ≤ length s → fold with_byte 0 (field k at s) ≡ be (field k at s)
+  unfolding field
+  be_folded zero at h r = sym (be-none at s)
+  be_folded (suc k) at h r =
+      let p : k < length (drop at s) = simp length-drop (omega arith) in
+      ap (fold with_byte 0) (take-suc (drop at s) k 0 p)
+      ∙ (fold-append with_byte 0 (take k (drop at s)) (get_or (drop at s) k 0 ∷ [])
+      ∙ (ap₂ with_byte (be_folded k at (omega arith) (omega arith)) (get_or-drop at s k 0)
+      ∙ (behind k _ _ (omega arith) (be_field_lt k at s (all_bytes s bytes) (omega arith)) (bytes (at + k)) ∙ sym (be_more s k at (omega arith)))))
 
--- with room for one more among at most eight
-pub turn_fits : (m : ℕ) {n b : ℕ} → m < 8 → n < 2 ^ (8 * m) → b < 256 → n * 256 + b < 2 ^ 64
-turn_fits m p q r =
-    let h : 8 * suc m ≤ 64 = omega arith in
-    lt_of_lt_of_le (more_lt m q r) (pow_mono h)
-
-pub turn_lt : (m l : ℕ) {n b : ℕ} → l ≡ suc m → n < 2 ^ (8 * m) → b < 256 → n * 256 + b < 2 ^ (8 * l)
-turn_lt m l e q r = rw e (more_lt m q r)
+  pub le_folded : (k at : ℕ) → k ≤ 8 → at + k ≤ length s → fold with_byte 0 (reverse (field k at s)) ≡ le (field k at s)
+  le_folded zero at h r = ap (λ (l : List ℕ). fold with_byte 0 (reverse l)) (field-none at s) ∙ sym (le-none at s)
+  le_folded (suc k) at h r =
+      let b = get_or s at 0 in
+      let l = field k (at + 1) s in
+      let more : le (field (suc k) at s) ≡ b + 256 * le l = rw add-one (le_more s k at (omega arith)) in
+      ap (λ (xs : List ℕ). fold with_byte 0 (reverse xs)) (field-cons k at s (omega arith))
+      ∙ (ap (fold with_byte 0) (reverse-cons b l)
+      ∙ (fold-append with_byte 0 (reverse l) (b ∷ [])
+      ∙ (ap (λ (n : ℕ). with_byte n b) (le_folded k (at + 1) (omega arith) (omega arith))
+      ∙ (behind k _ b (omega arith) (le_field_lt k (at + 1) s (all_bytes s bytes) (omega arith)) (bytes at) ∙ sym more))))
 
 -- ---- writing a number, the low byte first in time
 

@@ -16,24 +16,15 @@ const SIGN: u64 = 0x8000_0000_0000_0000;
 
 const INFINITY: u64 = 0x7ff0_0000_0000_0000;
 
-fn wide(b: u8) -> u64
-    ensures { (result ≡ b) × (result < 256) }
-{
-    b as u64
-}
-
 // The number of the k bytes from at on, low byte first.
 pub fn le_number(s: &[u8], at: usize, k: usize) -> u64
     requires { (k ≤ 8) × (at + k ≤ length s.now) }
     ensures { (result ≡ le (field k at s.now)) × (result < 2 ^ (8 * k)) }
 {
-    let mut n: u64 = 0;
-    let mut i = k;
-    while 0 < i {
-        i -= 1;
-        n = n * 256 + wide(s[at + i]);
-    }
-    n
+    s[at..at + k]
+        .iter()
+        .rev()
+        .fold(0, |n, b| (n << 8) | u64::from(*b))
 }
 
 // The number of the k bytes from at on, high byte first.
@@ -41,13 +32,9 @@ pub fn be_number(s: &[u8], at: usize, k: usize) -> u64
     requires { (k ≤ 8) × (at + k ≤ length s.now) }
     ensures { (result ≡ be (field k at s.now)) × (result < 2 ^ (8 * k)) }
 {
-    let mut n: u64 = 0;
-    let mut i = 0;
-    while i < k {
-        n = n * 256 + wide(s[at + i]);
-        i += 1;
-    }
-    n
+    s[at..at + k]
+        .iter()
+        .fold(0, |n, b| (n << 8) | u64::from(*b))
 }
 
 // The k low bytes of x go in at a place, low byte first.
@@ -56,11 +43,9 @@ pub fn put_le(out: &mut [u8], at: usize, x: u64, k: usize)
     ensures { out.new ≡ sets out.old at (le_bytes k x) }
 {
     let mut v = x;
-    let mut i = 0;
-    while i < k {
+    for i in 0..k {
         out[at + i] = (v % 256) as u8;
         v /= 256;
-        i += 1;
     }
 }
 
@@ -70,9 +55,7 @@ pub fn put_be(out: &mut [u8], at: usize, x: u64, k: usize)
     ensures { out.new ≡ sets out.old at (be_bytes k x) }
 {
     let mut v = x;
-    let mut i = k;
-    while 0 < i {
-        i -= 1;
+    for i in (0..k).rev() {
         out[at + i] = (v % 256) as u8;
         v /= 256;
     }
@@ -83,22 +66,14 @@ pub fn signed(n: u64) -> i32
     requires { n < 2 ^ 32 }
     ensures { result ≡ to_z w32 n }
 {
-    if n < 0x8000_0000 {
-        n as i32
-    } else {
-        !((0xffff_ffff - n) as i32)
-    }
+    (n as u32).cast_signed()
 }
 
 // The bits of a signed number.
 pub fn unsigned(z: i32) -> u64
     ensures { (result ≡ of_z w32 z) × (result < 2 ^ 32) }
 {
-    if z < 0 {
-        0xffff_ffff - (!z as u64)
-    } else {
-        z as u64
-    }
+    u64::from(z.cast_unsigned())
 }
 
 // The double whose bits these are; any NaN's bits give a NaN.
@@ -106,7 +81,7 @@ pub fn double(n: u64) -> f64
     ensures { result ≡ of_bits binary64 n }
 {
     if INFINITY < n % SIGN {
-        0.0 / 0.0
+        f64::NAN
     } else {
         f64::from_bits(n)
     }
@@ -116,7 +91,7 @@ pub fn double(n: u64) -> f64
 pub fn bits(x: f64) -> u64
     ensures { result ≡ to_bits binary64 x }
 {
-    if x != x {
+    if x.is_nan() {
         0x7ff8_0000_0000_0000
     } else {
         f64::to_bits(x)
@@ -146,16 +121,15 @@ fn below_number(a: u64, b: u64) -> bool
 {
     let p = a % SIGN;
     let q = b % SIGN;
-    if INFINITY < p {
+    if INFINITY < p || INFINITY < q {
         return false;
     }
-    if INFINITY < q {
-        return false;
+    match (a < SIGN, b < SIGN) {
+        (true, true) => p < q,
+        (true, false) => false,
+        (false, true) => 0 < p + q,
+        (false, false) => q < p,
     }
-    if a < SIGN {
-        return if b < SIGN { p < q } else { false };
-    }
-    if b < SIGN { 0 < p + q } else { q < p }
 }
 
 // The two of doubles that are not in bits.
@@ -220,11 +194,8 @@ pub fn read_doubles(s: &[u8], at: usize, out: &mut [f64])
     requires { at + 8 * length out.old ≤ length s.now }
     ensures { out.new ≡ doubles_at 8 (length out.old) at s.now }
 {
-    let mut i = 0;
-    while i < out.len() {
-        let x = le_f64_at(s, at + 8 * i);
-        out[i] = x;
-        i += 1;
+    for (i, x) in out.iter_mut().enumerate() {
+        *x = le_f64_at(s, at + 8 * i);
     }
 }
 
@@ -232,10 +203,7 @@ pub fn write_doubles(out: &mut [u8], at: usize, xs: &[f64])
     requires { at + 8 * length xs.now ≤ length out.old }
     ensures { out.new ≡ sets out.old at (f64s_le xs.now) }
 {
-    let mut i = 0;
-    while i < xs.len() {
-        let x = xs[i];
-        put_le_f64(out, at + 8 * i, x);
-        i += 1;
+    for (i, x) in xs.iter().enumerate() {
+        put_le_f64(out, at + 8 * i, *x);
     }
 }
