@@ -3,7 +3,6 @@ use mathlib.Core.Path.{◌≡◌, refl, ap}
 use mathlib.Core.Bool.{true, false}
 use mathlib.Core.List.{List, [], ◌∷◌}
 use Prim.Native.Nat.{ℕ, zero, suc, ◌+◌, ◌-◌, ◌≤◌, ◌<◌}
-use native.Mathlib.Numerals.{add-one}
 use native.Mathlib.Omega.{arith}
 use lib.Ieee.{Float, nan, binary64, add, of_bits, of_int}
 use lib.ListN.{length, get_or, take, drop}
@@ -61,10 +60,6 @@ module _ (xs ys : List Float) where
   closed_at zero h = absurd (h refl)
   closed_at (suc k) h = ap (equal (point_at xs ys 0)) (last_at 0 k (suc k - 1) (omega arith))
 
-  pub none-closed : (n : ℕ) → n ≡ 0 → closed (points_from xs ys 0 n) ≡ false
-  unfolding closed
-  none-closed n z = rw z
-
   -- ---- what closing appends
 
   pub appends_first : (n : ℕ) → (n ≡ 0 → ⊥) → closed (points_from xs ys 0 n) ≡ false → appended (points_from xs ys 0 n) ≡ point_at xs ys 0 ∷ []
@@ -74,12 +69,15 @@ module _ (xs ys : List Float) where
 
   -- ---- a turn of the loop that sums
 
-  pub sum_turn : (n i : ℕ) (sum : Float) → i + 1 < n → plus (add binary64 sum (product (point_at xs ys i) (point_at xs ys (i + 1)))) (products (points_from xs ys (i + 1) (n - (i + 1)))) ≡ plus sum (products (points_from xs ys i (n - i)))
+  pub sum_turn : (n i : ℕ) (sum : Float) → 1 ≤ i → i < n → plus (add binary64 sum (product (point_at xs ys (i - 1)) (point_at xs ys i))) (products (points_from xs ys (i + 1 - 1) (n - (i + 1 - 1)))) ≡ plus sum (products (points_from xs ys (i - 1) (n - (i - 1))))
   unfolding products
-  sum_turn n i sum h =
-      let a : n - (i + 1) ≡ suc (n - (i + 2)) = omega arith in
-      let b : n - i ≡ suc (suc (n - (i + 2))) = omega arith in
-      rw (a, b, add-one)
+  sum_turn n zero sum h g = absurd (omega arith)
+  sum_turn n (suc k) sum h g =
+      let this : suc k - 1 ≡ k = omega arith in
+      let next : suc k + 1 - 1 ≡ suc k = omega arith in
+      let left : n - suc k ≡ suc (n - (k + 2)) = omega arith in
+      let left' : n - k ≡ suc (suc (n - (k + 2))) = omega arith in
+      rw (this, next, left, left')
 
   no_neighbours : (i k : ℕ) → k ≤ 1 → products (points_from xs ys i k) ≡ []
   unfolding products
@@ -88,8 +86,8 @@ module _ (xs ys : List Float) where
   no_neighbours i (suc (suc k)) h = absurd (omega arith)
 
   -- the last point has none
-  pub sum_end : (n i : ℕ) (sum : Float) → n ≤ i + 1 → plus sum (products (points_from xs ys i (n - i))) ≡ sum
-  sum_end n i sum h = ap (plus sum) (no_neighbours i (n - i) (omega arith))
+  pub sum_end : (n i : ℕ) (sum : Float) → n ≤ i → plus sum (products (points_from xs ys (i - 1) (n - (i - 1)))) ≡ sum
+  sum_end n i sum h = ap (plus sum) (no_neighbours (i - 1) (n - (i - 1)) (omega arith))
 
 pub appends_none : (ps : List Point) → closed ps ≡ true → appended ps ≡ []
 unfolding appended

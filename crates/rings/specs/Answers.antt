@@ -1,14 +1,13 @@
 -- What each call of "Rings" answers, in document 01's terms, and what closing leaves in the stores.
-use Rattle.std.specs.Prelude.{◌≡◌, Bool, true, false, ◌&&◌, List, [], ◌∷◌, ◌++◌, ℕ, ◌+◌, leb, Float, length, take}
+use Rattle.std.specs.Prelude.{◌≡◌, Bool, ◌&&◌, List, [], ◌∷◌, ◌++◌, ℕ, ◌+◌, leb, Float, length, take, Result, Ok, Err}
 use Rattle.std.proofs.lemmas.List.Edits.{sets}
 use Rattle.format.specs.Order.{first}
 use Rattle.format.specs.Said.{Said, gives, room, tables, unless_refused}
-use Rattle.rings.specs.declared.ClosedAnswer.{ClosedAnswer}
-use Rattle.rings.specs.declared.ClosedAnswer.TheVariants as Is
-use Rattle.rings.specs.declared.CloseAnswer.{CloseAnswer}
-use Rattle.rings.specs.declared.CloseAnswer.TheVariants as Has
-use Rattle.rings.specs.declared.RingAnswer.{RingAnswer}
-use Rattle.rings.specs.declared.RingAnswer.TheVariants as Turns
+use Rattle.rings.specs.declared.TooFew.{TooFew}
+use Rattle.rings.specs.declared.RingType.{RingType}
+use Rattle.rings.specs.declared.RingType.TheVariants.{OuterRing, InnerRing}
+use Rattle.rings.specs.declared.CloseError.{CloseError}
+use Rattle.rings.specs.declared.CloseError.TheVariants.{Tables, Room}
 use Rattle.rings.specs.Points.{Point, points, x_of, y_of, closed, appended, Turning, outer, inner, turning}
 
 -- a run of n points is the first n of both stores
@@ -26,30 +25,32 @@ module _ {A : Type 0} where
 
 -- ---- closed
 
-abbrev pub said_closed : ClosedAnswer → Said Bool
-said_closed Is.Closed = gives true
-said_closed Is.Open = gives false
-said_closed Is.Tables = tables
+abbrev pub said_closed : Result Bool TooFew → Said Bool
+said_closed (Ok b) = gives b
+said_closed (Err few) = tables
 
 unfoldable pub closed_of : List Float → List Float → ℕ → Said Bool
 closed_of xs ys n = of_run closed xs ys n
 
 -- ---- turning
 
-abbrev pub said_turning : RingAnswer → Said Turning
-said_turning Turns.OuterRing = gives outer
-said_turning Turns.InnerRing = gives inner
-said_turning Turns.Tables = tables
+abbrev pub turning_is : RingType → Turning
+turning_is OuterRing = outer
+turning_is InnerRing = inner
+
+abbrev pub said_turning : Result RingType TooFew → Said Turning
+said_turning (Ok t) = gives (turning_is t)
+said_turning (Err few) = tables
 
 unfoldable pub turning_of : List Float → List Float → ℕ → Said Turning
 turning_of xs ys n = of_run turning xs ys n
 
 -- ---- closing
 
-abbrev pub said_closing : CloseAnswer → Said ℕ
-said_closing (Has.Points n) = gives n
-said_closing Has.Tables = tables
-said_closing (Has.Room n) = room 0 n
+abbrev pub said_closing : Result ℕ CloseError → Said ℕ
+said_closing (Ok n) = gives n
+said_closing (Err Tables) = tables
+said_closing (Err (Room n)) = room 0 n
 
 -- how many points a run has when it is closed
 abbrev pub count_then : List Point → ℕ
@@ -69,7 +70,7 @@ abbrev pub y_then : List Float → List Float → ℕ → List Float
 y_then xs ys n = sets ys n (y_of (appended (run_of xs ys n)))
 
 -- what a call of closing comes to: the answer, and both stores
-pub record Closing (xs ys : List Float) (n : ℕ) (answer : CloseAnswer) (xs' ys' : List Float) : Type 0 where
+pub record Closing (xs ys : List Float) (n : ℕ) (answer : Result ℕ CloseError) (xs' ys' : List Float) : Type 0 where
   pub answered : said_closing answer ≡ closing_of xs ys n
   pub x_left : xs' ≡ unless_refused (said_closing answer) xs (x_then xs ys n)
   pub y_left : ys' ≡ unless_refused (said_closing answer) ys (y_then xs ys n)

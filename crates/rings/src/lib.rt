@@ -1,99 +1,83 @@
-// Rings: whether a run of points is closed, closing it, and which way it turns. A run of n points is the first n of a store of x and of one of y.
-// `Tables` is the answer where either store has fewer.
+// Rings: whether a run of points is closed, closing it, and which way it turns. A run of n points is the first n of a store of x and of one of y,
+// which the C interface lends apart.
 #![tactic(auto)]
 
-ghost use Rattle.std.specs.Prelude.{◌≡◌};
+ghost use Rattle.std.specs.Prelude.{◌≡◌, ◌≤◌, length, OnOk};
 ghost use Rattle.rings.specs.Answers.{said_closed, said_turning, closed_of, turning_of, Closing};
+ghost use Rattle.rings.specs.declared.CloseError.TheVariants.{Tables};
 
-#[derive(Clone, Copy)]
-pub enum ClosedAnswer {
-    Closed,
-    Open,
-    Tables,
+// The run ends past one of its stores.
+#[derive(Clone, Copy, Debug, PartialEq, Eq)]
+pub struct TooFew;
+
+#[derive(Clone, Copy, Debug, PartialEq, Eq)]
+pub enum RingType {
+    OuterRing,
+    InnerRing,
 }
 
-// How many points the closed run has; `Room`, where a store does not hold so many.
-#[derive(Clone, Copy)]
-pub enum CloseAnswer {
-    Points(usize),
+// `Tables`: the run ends past one of its stores. `Room`: a store does not hold the closed run, which has so many points.
+#[derive(Clone, Copy, Debug, PartialEq, Eq)]
+pub enum CloseError {
     Tables,
     Room(usize),
 }
 
-#[derive(Clone, Copy)]
-pub enum RingAnswer {
-    OuterRing,
-    InnerRing,
-    Tables,
+impl From<TooFew> for CloseError {
+    ghost from_gives = { λ _ e. e ≡ Tables };
+
+    fn from(_few: TooFew) -> CloseError {
+        CloseError::Tables
+    }
 }
 
 // There is a first point, and it equals the last.
-pub fn is_part_closed(xs: &[f64], ys: &[f64], n: usize) -> ClosedAnswer
-    ensures { said_closed result ≡ closed_of xs.now ys.now n }
+pub fn is_part_closed(xs: &[f64], ys: &[f64], n: usize) -> Result<bool, TooFew>
+    ensures answered { said_closed result ≡ closed_of xs.now ys.now n }
+    ensures within { OnOk result ((n ≤ length xs.now) × (n ≤ length ys.now)) }
 {
-    if xs.len() < n {
-        return ClosedAnswer::Tables;
-    }
-    if ys.len() < n {
-        return ClosedAnswer::Tables;
+    if xs.len() < n || ys.len() < n {
+        return Err(TooFew);
     }
     if n == 0 {
-        return ClosedAnswer::Open;
+        return Ok(false);
     }
-    if fields::same(xs[0], xs[n - 1]) {
-        if fields::same(ys[0], ys[n - 1]) {
-            return ClosedAnswer::Closed;
-        }
-    }
-    ClosedAnswer::Open
+    Ok(fields::same(xs[0], xs[n - 1]) && fields::same(ys[0], ys[n - 1]))
 }
 
-// Where the run has a point and is not closed, its first point is appended.
-pub fn close_points_if_not_already(xs: &mut [f64], ys: &mut [f64], n: usize) -> CloseAnswer
+// Where the run has a point and is not closed, its first point is appended: how many points the closed run has.
+pub fn close_points_if_not_already(
+    xs: &mut [f64],
+    ys: &mut [f64],
+    n: usize,
+) -> Result<usize, CloseError>
     ensures { Closing xs.old ys.old n result xs.new ys.new }
 {
-    match is_part_closed(xs, ys, n) {
-        ClosedAnswer::Tables => CloseAnswer::Tables,
-        ClosedAnswer::Closed => CloseAnswer::Points(n),
-        ClosedAnswer::Open => {
-            if n == 0 {
-                return CloseAnswer::Points(0);
-            }
-            if xs.len() == n {
-                return CloseAnswer::Room(n + 1);
-            }
-            if ys.len() == n {
-                return CloseAnswer::Room(n + 1);
-            }
-            let x = xs[0];
-            let y = ys[0];
-            xs[n] = x;
-            ys[n] = y;
-            CloseAnswer::Points(n + 1)
-        }
+    if is_part_closed(xs, ys, n)? || n == 0 {
+        return Ok(n);
     }
+    if xs.len() == n || ys.len() == n {
+        return Err(CloseError::Room(n + 1));
+    }
+    xs[n] = xs[0];
+    ys[n] = ys[0];
+    Ok(n + 1)
 }
 
 // Over neighbouring points the sum of (x1 - x0) * (y1 + y0), halved: inner where that is below 0.
-pub fn ring_type_from_points_ordering(xs: &[f64], ys: &[f64], n: usize) -> RingAnswer
+pub fn ring_type_from_points_ordering(xs: &[f64], ys: &[f64], n: usize) -> Result<RingType, TooFew>
     ensures { said_turning result ≡ turning_of xs.now ys.now n }
 {
-    if xs.len() < n {
-        return RingAnswer::Tables;
-    }
-    if ys.len() < n {
-        return RingAnswer::Tables;
+    if xs.len() < n || ys.len() < n {
+        return Err(TooFew);
     }
     let mut sum = 0.0;
-    let mut i = 0;
-    while i + 1 < n {
-        let next = i + 1;
-        sum = sum + (xs[next] - xs[i]) * (ys[next] + ys[i]);
-        i = next;
+    for i in 1..n {
+        sum += (xs[i] - xs[i - 1]) * (ys[i] + ys[i - 1]);
     }
     if sum / 2.0 < 0.0 {
-        RingAnswer::InnerRing
+        Ok(RingType::InnerRing)
     } else {
-        RingAnswer::OuterRing
+        Ok(RingType::OuterRing)
     }
 }
