@@ -1,4 +1,4 @@
-// Numbers in slices of bytes, read and written. Internal: a caller shows that the field lies within the bytes.
+// Numbers in slices of bytes, read and written. Internal: a caller shows that the field lies within the bytes, or reads it by `checked`.
 #![tactic(auto)]
 
 ghost use Rattle.std.specs.Prelude.{◌≡◌, ◌+◌, ◌*◌, ◌^◌, ◌≤◌, ◌<◌, length};
@@ -10,6 +10,8 @@ ghost use Rattle.std.proofs.Common.{to_z, of_z};
 ghost use Rattle.format.specs.Bytes.{le, be, le_bytes, be_bytes, field};
 ghost use Rattle.format.specs.Numbers.{be_i32, le_i32, le_f64, doubles_at, i32_be, i32_le, f64_le, f64s_le};
 ghost use Rattle.format.specs.WellFormed.{same_number};
+
+pub mod checked;
 
 // The weight of a double's sign, and the bits of an infinity without one: what is above them is a NaN's.
 const SIGN: u64 = 0x8000_0000_0000_0000;
