@@ -261,6 +261,3 @@ module _ (f : Formula) (p n : ℕ) (words : Words) (h : SFits w32 words.0) (c : 
     where
       over : (z : ℤ) → z ≡ pos (formula_words f p n) → SFits w32 z → 2 ^ 31 ≤ formula_words f p n → ⊥
       over z q s l = omega (arith, (subst (SFits w32) q s).sfits)
-
-pub small_product : {a n : ℕ} → a < 2 ^ 16 → n < 2 ^ 32 → a * n < 2 ^ 48
-small_product {a} {n} p q = lt_of_le_of_lt (mul-le-mul_left a (le_of_lt q)) (mul-lt-mul_of_pos_right p (pow_pos 32))

@@ -3,10 +3,8 @@ use mathlib.Core.Path.{◌≡◌, refl, ap₂, ◌∙◌}
 use mathlib.Core.Bool.{Bool, true, false}
 use Prim.Native.Nat.{ℕ, ◌+◌}
 use native.Mathlib.Omega.{arith}
-use borrow.Author.Rules.{rules}
 use Rattle.format.specs.Lengths.{given, several_form, fixed_words, point_words}
-use Rattle.format.proofs.lengths.of_several.Statement.{statement}
-use Rattle.format.proofs.lengths.of_several.Tie as tie
+use Rattle.format.proofs.lengths.of_several.Goals as goal
 
 -- behind the kind's field and the box: the number of parts and that of points, the range of z and that of m
 fixed-is : (f z m : Bool) {p r s : ℕ} → p ≡ given f 2 → r ≡ given z 8 → s ≡ given m 8 → 18 + (p + 2) + (r + s) ≡ fixed_words (several_form f) z m
@@ -19,7 +17,7 @@ unfolding point_words
 point-is true z m = refl
 point-is false z m = refl
 
-returns : tie.Need-returns
+pub returns : goal.returns
 returns c =
     let m = c.before in
     let z = m.before in
@@ -28,10 +26,3 @@ returns c =
     ap₂ (λ (f p : ℕ). record { fixed = f; point = p })
     (fixed-is a.in_parts a.z a.m p.given-counts.ensures.0 z.given.ensures.0 m.given-2.ensures.0)
     (c.point_doubles.ensures.0 ∙ point-is a.in_parts a.z a.m)
-
-pub of_several_spec : {M : Type 1} → statement M
-of_several_spec =
-    tie.close
-    (tie.spec
-    (λ c κs. search rules) (λ c. search rules) (λ c κs. search rules) (λ c κs. search rules) (λ c. search rules) (λ c. search rules) (λ c. search rules) (λ c. search rules) (λ c κs. search rules)
-    returns)
