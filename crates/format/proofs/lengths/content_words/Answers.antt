@@ -1,12 +1,8 @@
 -- `format::lengths::content_words` meets its contract: by whether an i32 holds the words.
-use Prim.Native.Nat.{◌*◌, ◌^◌, ◌<◌}
-use native.Mathlib.Omega.{arith}
-use borrow.Author.Rules.{rules}
+use Prim.Native.Nat.{◌^◌}
 use borrow.Author.Tests.{lt-ltb, le-ltb}
 use Rattle.format.specs.Lengths.{counted}
-use Rattle.format.proofs.LengthLaws.{small_product}
 use Rattle.format.proofs.lengths.content_words.Goals as goal
-use Rattle.format.proofs.lengths.content_words.Goals.{Start}
 
 pub returns-then-words-lt2147483648 : goal.returns-then-words-lt2147483648
 unfolding counted
