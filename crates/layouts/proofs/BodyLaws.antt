@@ -18,9 +18,9 @@ use Rattle.format.proofs.LayoutLaws.{onto}
 use Rattle.format.proofs.NumberLaws.{length-little, length-f64s_le, f64s_le-append, doubles-bits}
 use Rattle.header.specs.declared.bbox.BBoxZ.{BBoxZ}
 use Rattle.layouts.specs.Answers.{body_size}
-use Rattle.layouts.specs.Steps.{measure_size, starts_bytes, corners, counts_bytes, front_bytes, front_size, pairs_bytes, Agreed}
+use Rattle.layouts.specs.Steps.{measure_size, starts_bytes, corners, counts_bytes, front_bytes, front_size, pairs_bytes, Agreed, Placed}
 use Rattle.layouts.specs.Tables.{points_of, measure_of, parts_of, multipoint_of, several_of, points_lent}
-use Rattle.layouts.proofs.TableLaws.{length-points, length_pairs, split_length, split_whole, split_starts, length_starts}
+use Rattle.layouts.proofs.TableLaws.{length-points, length_pairs, split_length, split_whole, split_starts, length_starts, no_counts}
 
 -- ---- box, counts and starts
 
@@ -75,17 +75,6 @@ front-words : (parts : Bool) (p : ℕ) → 4 + front_size parts p ≡ 2 * front_
 front-words true p = omega (arith, front-parts p)
 front-words false p = omega (arith, front_many p)
 
-pub parts-front : (parts : Bool) (p : ℕ) → parts ≡ true → front_size parts p ≡ 40 + 4 * p
-parts-front parts p e = rw e
-
-pub front-least : (parts : Bool) (p : ℕ) → 36 ≤ front_size parts p
-front-least true p = omega arith
-front-least false p = omega arith
-
-pub front_most : (parts : Bool) (p : ℕ) → front_size parts p ≤ 40 + 4 * p
-front_most true p = omega arith
-front_most false p = omega arith
-
 pub size_is : (parts z m : Bool) (p n : ℕ) → (parts ≡ false → p ≡ 0) → front_size parts p + 16 * n + measure_size z n + measure_size m n ≡ body_size parts z m p n
 unfolding body_size
 size_is parts true true p n h = omega (arith, front-words parts p, several-words parts true true p n h)
@@ -93,14 +82,16 @@ size_is parts true false p n h = omega (arith, front-words parts p, several-word
 size_is parts false true p n h = omega (arith, front-words parts p, several-words parts false true p n h)
 size_is parts false false p n h = omega (arith, front-words parts p, several-words parts false false p n h)
 
-pub size_most : (flag : Bool) (n : ℕ) → measure_size flag n ≤ 16 + 8 * n
-size_most true n = omega arith
-size_most false n = omega arith
-
 -- there is room for a table that holds what the layout has
 pub measure_fits : (flag : Bool) (values : List Float) (n at room : ℕ) → length values ≡ cond flag n 0 → at + measure_size flag n ≤ room → at + measure_size flag (length values) ≤ room
 measure_fits true values n at room e h = omega arith
 measure_fits false values n at room e h = h
+
+-- where the fields end, once all is judged
+pub room_for : (parts z m : Bool) (counts : List ℕ) (xs ys zs ms : List Float) (room : ℕ) → Placed parts z m counts xs ys zs ms room
+    → front_size parts (length counts) + 16 * length xs + measure_size z (length xs) + measure_size m (length xs) ≤ room
+room_for parts z m counts xs ys zs ms room p =
+    rw (size_is _ _ _ (length counts) (length xs) (no_counts parts (length counts) p.counts_fit), p.agreed.xs_has) p.fits
 
 -- ---- the whole body
 

@@ -1,43 +1,22 @@
 -- One turn of each loop of the crate, in the loop's own terms: what is left to do before the turn is the turn and what is left after it.
-use mathlib.Core.Path.{◌≡◌, refl, sym}
-use mathlib.Core.Bool.{Bool, true, false}
-use mathlib.Core.List.{List, ◌++◌, flatten}
-use Prim.Native.Nat.{ℕ, suc, ◌+◌, ◌*◌, ◌-◌, ◌≤◌, ◌<◌}
+use mathlib.Core.Path.{◌≡◌, refl, sym, ap, ◌∙◌}
+use mathlib.Core.List.{List, ◌∷◌, ◌++◌, flatten}
+use Prim.Native.Nat.{ℕ, suc, ◌+◌, ◌*◌, ◌<◌}
 use native.Mathlib.Numerals.{add-one}
 use native.Mathlib.Omega.{arith}
-use lib.Dec.{eqb}
 use lib.Ieee.{Float}
 use lib.ListN.{length, get_or, drop, length-append}
 use lib.Seq.{sets, drop-cons}
-use borrow.Author.Tests.{eq-eqb, ne_eqb, eqb-true, eqb-false}
+use Rattle.std.specs.List.{enumerate_from, zip}
+use Rattle.std.proofs.lemmas.List.FromFn.{length-enumerate_from, get_or-enumerate_from}
+use Rattle.std.proofs.lemmas.Slice.Zip.{length-zip, get_or-zip}
 use Rattle.format.specs.Bytes.{le_bytes}
 use Rattle.format.specs.Numbers.{little, f64_le}
-use Rattle.format.specs.Shapes.{sum}
 use Rattle.format.proofs.Equations.{little-is}
-use Rattle.format.proofs.LayoutLaws.{sets-append, onto, sum_drop}
+use Rattle.format.proofs.LayoutLaws.{sets-append, onto}
 use Rattle.format.proofs.NumberLaws.{length-little, length-f64_le}
 use Rattle.layouts.specs.Steps.{starts_bytes, pairs_bytes}
 use Rattle.layouts.proofs.TableLaws.{pair_is}
-
--- ---- a sum that runs down
-
--- two tests are one where each equation gives the other
-same_test : (a b c d : ℕ) → (a ≡ b → c ≡ d) → (c ≡ d → a ≡ b) → eqb a b ≡ eqb c d
-same_test a b c d f g = by (eqb c d) refl
-  where
-    by : (t : Bool) → eqb c d ≡ t → eqb a b ≡ t
-    by true e = eq-eqb a b (g (eqb-true c d e))
-    by false e = ne_eqb a b (λ q. eqb-false c d e (f q))
-
-pub down_turn : (counts : List ℕ) (left i : ℕ) → i < length counts → get_or counts i 0 ≤ left → eqb (left - get_or counts i 0) (sum (drop (i + 1) counts)) ≡ eqb left (sum (drop i counts))
-down_turn counts left i h k =
-    let e = sum_drop counts i h in
-    same_test (left - get_or counts i 0) (sum (drop (i + 1) counts)) left (sum (drop i counts)) (λ q. omega arith) (λ q. omega arith)
-
-pub down_past : (counts : List ℕ) (left i : ℕ) → i < length counts → left < get_or counts i 0 → false ≡ eqb left (sum (drop i counts))
-down_past counts left i h k =
-    let e = sum_drop counts i h in
-    sym (ne_eqb left (sum (drop i counts)) (λ q. omega arith))
 
 -- ---- starts that run on
 
@@ -49,12 +28,25 @@ starts_turn out at i a counts h =
 
 -- ---- pairs that run on
 
--- what is left, from point i on, at the place of point i, once x and y of that point are stored
-pub pairs_turn : (out l1 l2 : List ℕ) (at i : ℕ) (xs ys : List Float) (d e : Float) → i < length xs → i < length ys → l1 ≡ sets out (at + 16 * i) (f64_le (get_or xs i d)) → l2 ≡ sets l1 (at + 16 * i + 8) (f64_le (get_or ys i e)) → sets l2 (at + 16 * (i + 1)) (pairs_bytes (drop (i + 1) xs) (drop (i + 1) ys)) ≡ sets out (at + 16 * i) (pairs_bytes (drop i xs) (drop i ys))
+-- the i-th pair of a run over both lists, by where it stands
+pub pair_at : (xs ys : List Float) (n i : ℕ) (x y : Float) → length ys ≡ length xs → n < length (enumerate_from 0 (zip xs ys)) → (i, (x, y)) ≡ get_or (enumerate_from 0 (zip xs ys)) n (i, (x, y))
+    → (n < length xs) × (i ≡ n) × (drop n xs ≡ x ∷ drop (n + 1) xs) × (drop n ys ≡ y ∷ drop (n + 1) ys)
+pair_at xs ys n i x y same h e =
+    let k : n < length xs = omega (arith, length-enumerate_from 0 (zip xs ys), length-zip xs ys) in
+    let ky : n < length ys = omega arith in
+    let z : n < length (zip xs ys) = omega (arith, length-enumerate_from 0 (zip xs ys)) in
+    let z0 : 0 + n ≡ n = omega arith in
+    let p : (i, (x, y)) ≡ (0 + n, (get_or xs n x, get_or ys n y)) = e ∙ (get_or-enumerate_from 0 (zip xs ys) n (i, (x, y)) z ∙ ap (λ (q : Float × Float). (0 + n, q)) (get_or-zip xs ys n (x, y) k ky)) in
+    let ex : x ≡ get_or xs n x = ap (λ (q : ℕ × (Float × Float)). q.1.0) p in
+    let ey : y ≡ get_or ys n y = ap (λ (q : ℕ × (Float × Float)). q.1.1) p in
+    (k, ap (λ (q : ℕ × (Float × Float)). q.0) p ∙ z0, rw add-one (drop-cons xs n x k ∙ ap (λ a. a ∷ drop (suc n) xs) (sym ex)), rw add-one (drop-cons ys n y ky ∙ ap (λ a. a ∷ drop (suc n) ys) (sym ey)))
+
+-- what is left, from point n on, at the place of point n, once x and y of that point are stored
+pub pairs_turn : (out l1 l2 : List ℕ) (at n i m : ℕ) (xs ys : List Float) (x y : Float) → i ≡ n → m ≡ n + 1 → drop n xs ≡ x ∷ drop (n + 1) xs → drop n ys ≡ y ∷ drop (n + 1) ys
+    → l1 ≡ sets out (at + 16 * i) (f64_le x) → l2 ≡ sets l1 (at + 16 * i + 8) (f64_le y)
+    → sets l2 (at + 16 * m) (pairs_bytes (drop m xs) (drop m ys)) ≡ sets out (at + 16 * n) (pairs_bytes (drop n xs) (drop n ys))
 unfolding flatten
-pairs_turn out l1 l2 at i xs ys d e h k p q =
-    let x = f64_le (get_or xs i d) in
-    let y = f64_le (get_or ys i e) in
-    let pair = onto out l1 l2 x y (at + 16 * i) (at + 16 * i + 8) (simp length-f64_le) p q in
-    let j : at + 16 * suc i ≡ at + 16 * i + length (x ++ y) = simp (length-append, length-f64_le) (omega arith) in
-    rw (drop-cons xs i d h, drop-cons ys i e k, pair_is, add-one) (onto out l2 _ (x ++ y) _ (at + 16 * i) (at + 16 * suc i) j pair refl)
+pairs_turn out l1 l2 at n i m xs ys x y ei em dx dy p q =
+    let pair = onto out l1 l2 (f64_le x) (f64_le y) (at + 16 * n) (at + 16 * n + 8) (simp length-f64_le) (rw ei at p) (rw ei at q) in
+    let j : at + 16 * (n + 1) ≡ at + 16 * n + length (f64_le x ++ f64_le y) = simp (length-append, length-f64_le) (omega arith) in
+    rw (em, dx, dy, pair_is) (onto out l2 _ (f64_le x ++ f64_le y) _ (at + 16 * n) (at + 16 * (n + 1)) j pair refl)

@@ -1,13 +1,13 @@
 -- Writing a body of several points into the front of a lent output: the tests in order, the answer in document 01's terms, and the output.
-use Rattle.std.specs.Prelude.{◌≡◌, Bool, cond, ◌&&◌, ◌||◌, List, [], ◌∷◌, ℕ, ◌*◌, ◌-◌, ◌^◌, leb, ltb, eqb, Float, length}
+use Rattle.std.specs.Prelude.{◌≡◌, Bool, cond, ◌&&◌, ◌||◌, List, [], ◌∷◌, ℕ, ◌*◌, ◌-◌, ◌^◌, leb, ltb, eqb, Float, length, Result, Ok, Err}
 use Rattle.std.proofs.lemmas.List.Edits.{sets}
 use Rattle.format.specs.Encoding.{shape_bytes}
 use Rattle.format.specs.Lengths.{several_form, content_words}
 use Rattle.format.specs.Order.{first}
 use Rattle.format.specs.Said.{Said, gives, tables, long, room_bytes, unless_refused}
 use Rattle.header.specs.declared.bbox.BBoxZ.{BBoxZ}
-use Rattle.layouts.specs.declared.LayoutAnswer.{LayoutAnswer}
-use Rattle.layouts.specs.declared.LayoutAnswer.TheVariants.{Written, Tables, Long, Room}
+use Rattle.layouts.specs.declared.LayoutError.{LayoutError}
+use Rattle.layouts.specs.declared.LayoutError.TheVariants.{Tables, Long, Room}
 use Rattle.layouts.specs.Tables.{several_of, points_lent}
 
 -- the part counts sum to n, and a multipoint has none; x and y hold n each, and z and m hold n where the layout has them, else 0
@@ -38,13 +38,13 @@ layout_tests parts z m counts xs ys zs ms room =
 unfoldable pub layout_of : Bool → Bool → Bool → List ℕ → List Float → List Float → List Float → List Float → ℕ → Said ℕ
 layout_of parts z m counts xs ys zs ms room = first (layout_tests parts z m counts xs ys zs ms room) (gives (lent_size parts z m counts xs))
 
-abbrev pub said_layout : LayoutAnswer → Said ℕ
-said_layout (Written n) = gives n
-said_layout Tables = tables
-said_layout Long = long
-said_layout (Room n) = room_bytes n
+abbrev pub said_layout : Result ℕ LayoutError → Said ℕ
+said_layout (Ok n) = gives n
+said_layout (Err Tables) = tables
+said_layout (Err Long) = long
+said_layout (Err (Room n)) = room_bytes n
 
 -- the answer, and the output: the paper's bytes of the shape, and all else as it was
-pub record WritesBody (parts z m : Bool) (b : BBoxZ) (counts : List ℕ) (xs ys zs ms : List Float) (out : List ℕ) (answer : LayoutAnswer) (out' : List ℕ) : Type 0 where
+pub record WritesBody (parts z m : Bool) (b : BBoxZ) (counts : List ℕ) (xs ys zs ms : List Float) (out : List ℕ) (answer : Result ℕ LayoutError) (out' : List ℕ) : Type 0 where
   pub says : said_layout answer ≡ layout_of parts z m counts xs ys zs ms (length out)
   pub out_is : out' ≡ unless_refused (said_layout answer) out (sets out 0 (shape_bytes (several_of parts z m b counts xs ys zs ms)))

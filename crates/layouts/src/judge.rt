@@ -1,24 +1,24 @@
 // What is judged before the first byte is stored: whether the tables agree, whether an i32 holds the counts, and whether there is room.
-ghost use Rattle.std.specs.Prelude.{◌≡◌, cond, ◌<◌, ◌^◌, eqb, length};
+ghost use Rattle.std.specs.Prelude.{◌≡◌, cond, ◌&&◌, ◌<◌, ◌^◌, eqb, ltb, length};
 ghost use Rattle.format.specs.Shapes.{sum};
-ghost use Rattle.layouts.specs.Answers.{said_layout, layout_of};
+ghost use Rattle.layouts.specs.Answers.{said_layout};
+ghost use Rattle.layouts.specs.Lent.{lent_agree, layout_of_lent};
 ghost use Rattle.layouts.specs.Steps.{measure_size, front_size};
 
-use crate::LayoutAnswer;
+use crate::LayoutError;
+use format::shapes::{Layout, Tables};
 
-// Whether the counts sum to n. The sum stops where it would pass n.
+// Whether the counts sum to n. The sum stops where it would pass n. (`usize` has no `From<u32>`: the cast stays.)
 fn sums_to(counts: &[u32], n: usize) -> bool
     ensures { result ≡ eqb n (sum counts.now) }
 {
     let mut left = n;
-    let mut i = 0;
-    while i < counts.len() {
-        let count = counts[i] as usize;
+    for count in counts {
+        let count = *count as usize;
         if left < count {
             return false;
         }
         left -= count;
-        i += 1;
     }
     left == 0
 }
@@ -30,7 +30,7 @@ fn counted(parts: bool, counts: &[u32], n: usize) -> bool
     if parts {
         sums_to(counts, n)
     } else {
-        counts.len() == 0
+        counts.is_empty()
     }
 }
 
@@ -38,11 +38,25 @@ fn counted(parts: bool, counts: &[u32], n: usize) -> bool
 fn holds(flag: bool, values: &[f64], n: usize) -> bool
     ensures { result ≡ eqb (length values.now) (cond flag n 0) }
 {
-    if flag {
-        values.len() == n
-    } else {
-        values.len() == 0
-    }
+    values.len() == if flag { n } else { 0 }
+}
+
+// Whether the tables agree on the number of points.
+fn agree(layout: Layout, t: &Tables) -> bool
+    ensures { result ≡ lent_agree layout t.now }
+{
+    let n = t.xs.len();
+    counted(layout.parts, t.counts, n)
+        && t.ys.len() == n
+        && holds(layout.z, t.zs, n)
+        && holds(layout.m, t.ms, n)
+}
+
+// Whether an i32 holds both counts.
+fn held(p: usize, n: usize) -> bool
+    ensures { result ≡ ltb p (2 ^ 31) && ltb n (2 ^ 31) }
+{
+    i32::try_from(p).is_ok() && i32::try_from(n).is_ok()
 }
 
 // The bytes of a range and n values, where the layout has them.
@@ -61,43 +75,24 @@ pub(crate) fn front_size(parts: bool, p: usize) -> usize
     if parts { 40 + 4 * p } else { 36 }
 }
 
-// How many bytes the body takes, as `Written`, where they are to be written.
-pub(crate) fn judge_body(
-    parts: bool,
-    z: bool,
-    m: bool,
-    counts: &[u32],
-    xs: &[f64],
-    ys: &[f64],
-    zs: &[f64],
-    ms: &[f64],
-    room: usize,
-) -> LayoutAnswer
-    ensures { said_layout result ≡ layout_of parts z m counts.now xs.now ys.now zs.now ms.now room }
+// How many bytes the body takes, where they are to be written.
+pub(crate) fn judge_body(layout: Layout, t: &Tables, room: usize) -> Result<usize, LayoutError>
+    ensures { said_layout result ≡ layout_of_lent layout t.now room }
 {
-    let n = xs.len();
-    if ys.len() != n {
-        return LayoutAnswer::Tables;
+    if !agree(layout, t) {
+        return Err(LayoutError::Tables);
     }
-    if !counted(parts, counts, n) {
-        return LayoutAnswer::Tables;
+    let p = t.counts.len();
+    let n = t.xs.len();
+    if !held(p, n) {
+        return Err(LayoutError::Long);
     }
-    if !holds(z, zs, n) {
-        return LayoutAnswer::Tables;
-    }
-    if !holds(m, ms, n) {
-        return LayoutAnswer::Tables;
-    }
-    if 0x7fff_ffff < counts.len() {
-        return LayoutAnswer::Long;
-    }
-    if 0x7fff_ffff < n {
-        return LayoutAnswer::Long;
-    }
-    let front = front_size(parts, counts.len());
-    let size = front + 16 * n + measure_size(z, n) + measure_size(m, n);
+    let size = front_size(layout.parts, p)
+        + 16 * n
+        + measure_size(layout.z, n)
+        + measure_size(layout.m, n);
     if room < size {
-        return LayoutAnswer::Room(size);
+        return Err(LayoutError::Room(size));
     }
-    LayoutAnswer::Written(size)
+    Ok(size)
 }

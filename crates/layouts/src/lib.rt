@@ -3,45 +3,53 @@
 
 ghost use Rattle.std.specs.Prelude.{true, false, []};
 ghost use Rattle.layouts.specs.Answers.{WritesBody};
+ghost use Rattle.layouts.specs.Lent.{WritesLent};
 
+use format::shapes::{Layout, Tables};
 use header::bbox::BBoxZ;
 
 mod judge;
 mod puts;
 
-// How many bytes were written; that the tables disagree, that a count leaves i32, or how many bytes are needed.
-#[derive(Clone, Copy)]
-pub enum LayoutAnswer {
-    Written(usize),
+// The layouts with parts: x and y; with m; with z and m.
+const XY: Layout = Layout {
+    parts: true,
+    z: false,
+    m: false,
+};
+
+const XYM: Layout = Layout {
+    parts: true,
+    z: false,
+    m: true,
+};
+
+const XYZM: Layout = Layout {
+    parts: true,
+    z: true,
+    m: true,
+};
+
+// Why no byte is stored: the tables disagree, a count leaves i32, or so many bytes are needed.
+#[derive(Clone, Copy, Debug, PartialEq, Eq)]
+pub enum LayoutError {
     Tables,
     Long,
     Room(usize),
 }
 
-// A body in the layout that the flags name, in parts or as a multipoint: all is judged before the first byte is stored.
+// A body in a layout, in parts or as a multipoint, and how many bytes it has: all is judged before the first byte is stored.
 pub fn write_body(
     out: &mut [u8],
-    parts: bool,
-    z: bool,
-    m: bool,
+    layout: Layout,
     bbox: BBoxZ,
-    counts: &[u32],
-    xs: &[f64],
-    ys: &[f64],
-    zs: &[f64],
-    ms: &[f64],
-) -> LayoutAnswer
-    ensures { WritesBody parts z m bbox counts.now xs.now ys.now zs.now ms.now out.old result out.new }
+    t: &Tables,
+) -> Result<usize, LayoutError>
+    ensures { WritesLent layout bbox t.now out.old result out.new }
 {
-    match judge::judge_body(parts, z, m, counts, xs, ys, zs, ms, out.len()) {
-        LayoutAnswer::Tables => LayoutAnswer::Tables,
-        LayoutAnswer::Long => LayoutAnswer::Long,
-        LayoutAnswer::Room(size) => LayoutAnswer::Room(size),
-        LayoutAnswer::Written(size) => {
-            puts::put_body(out, parts, z, m, bbox, counts, xs, ys, zs, ms);
-            LayoutAnswer::Written(size)
-        }
-    }
+    let size = judge::judge_body(layout, t, out.len())?;
+    puts::put_body(out, layout, bbox, t);
+    Ok(size)
 }
 
 pub fn write_point_shape(
@@ -50,10 +58,17 @@ pub fn write_point_shape(
     counts: &[u32],
     xs: &[f64],
     ys: &[f64],
-) -> LayoutAnswer
+) -> Result<usize, LayoutError>
     ensures { WritesBody true false false bbox counts.now xs.now ys.now [] [] out.old result out.new }
 {
-    write_body(out, true, false, false, bbox, counts, xs, ys, &[], &[])
+    let t = Tables {
+        counts,
+        xs,
+        ys,
+        zs: &[],
+        ms: &[],
+    };
+    write_body(out, XY, bbox, &t)
 }
 
 pub fn write_point_m_shape(
@@ -63,10 +78,17 @@ pub fn write_point_m_shape(
     xs: &[f64],
     ys: &[f64],
     ms: &[f64],
-) -> LayoutAnswer
+) -> Result<usize, LayoutError>
     ensures { WritesBody true false true bbox counts.now xs.now ys.now [] ms.now out.old result out.new }
 {
-    write_body(out, true, false, true, bbox, counts, xs, ys, &[], ms)
+    let t = Tables {
+        counts,
+        xs,
+        ys,
+        zs: &[],
+        ms,
+    };
+    write_body(out, XYM, bbox, &t)
 }
 
 pub fn write_point_z_shape(
@@ -77,8 +99,15 @@ pub fn write_point_z_shape(
     ys: &[f64],
     zs: &[f64],
     ms: &[f64],
-) -> LayoutAnswer
+) -> Result<usize, LayoutError>
     ensures { WritesBody true true true bbox counts.now xs.now ys.now zs.now ms.now out.old result out.new }
 {
-    write_body(out, true, true, true, bbox, counts, xs, ys, zs, ms)
+    let t = Tables {
+        counts,
+        xs,
+        ys,
+        zs,
+        ms,
+    };
+    write_body(out, XYZM, bbox, &t)
 }

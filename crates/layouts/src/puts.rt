@@ -3,10 +3,12 @@ ghost use Rattle.std.specs.Prelude.{◌≡◌, true, ◌+◌, ◌*◌, ◌≤◌
 ghost use Rattle.std.proofs.lemmas.List.Edits.{sets};
 ghost use Rattle.format.specs.Encoding.{measure_bytes, shape_bytes};
 ghost use Rattle.format.specs.Shapes.{sum};
-ghost use Rattle.layouts.specs.Steps.{measure_size, starts_bytes, counts_bytes, front_bytes, front_size, pairs_bytes, Placed};
-ghost use Rattle.layouts.specs.Tables.{measure_of, several_of};
+ghost use Rattle.layouts.specs.Lent.{lent_shape, PlacedLent};
+ghost use Rattle.layouts.specs.Steps.{measure_size, starts_bytes, counts_bytes, front_bytes, front_size, pairs_bytes};
+ghost use Rattle.layouts.specs.Tables.{measure_of};
 
 use crate::judge::{front_size, measure_size};
+use format::shapes::{Layout, Tables};
 use header::bbox::BBoxZ;
 
 // Where each part starts: the number of the points before it.
@@ -14,16 +16,14 @@ fn put_starts(out: &mut [u8], at: usize, counts: &[u32])
     requires { (at + 4 * length counts.now ≤ length out.old) × (sum counts.now < 2 ^ 31) }
     ensures { out.new ≡ sets out.old at (starts_bytes 0 counts.now) }
 {
-    let mut start: u64 = 0;
-    let mut i = 0;
-    while i < counts.len() {
+    let mut start = 0;
+    for (i, count) in counts.iter().enumerate() {
         fields::put_le(out, at + 4 * i, start, 4);
-        start += counts[i] as u64;
-        i += 1;
+        start += u64::from(*count);
     }
 }
 
-// The counts and starts; of a multipoint n alone.
+// The counts and starts; of a multipoint n alone. (`u64` has no `From<usize>`: the casts stay.)
 fn put_counts(out: &mut [u8], parts: bool, counts: &[u32], n: usize)
     requires { (front_size parts (length counts.now) ≤ length out.old) × (parts ≡ true → sum counts.now < 2 ^ 31) }
     ensures { out.new ≡ sets out.old 32 (counts_bytes parts counts.now n) }
@@ -52,13 +52,9 @@ fn put_pairs(out: &mut [u8], at: usize, xs: &[f64], ys: &[f64])
     requires { (length ys.now ≡ length xs.now) × (at + 16 * length xs.now ≤ length out.old) }
     ensures { out.new ≡ sets out.old at (pairs_bytes xs.now ys.now) }
 {
-    let mut i = 0;
-    while i < xs.len() {
-        let x = xs[i];
-        let y = ys[i];
-        fields::put_le_f64(out, at + 16 * i, x);
-        fields::put_le_f64(out, at + 16 * i + 8, y);
-        i += 1;
+    for (i, (x, y)) in xs.iter().zip(ys).enumerate() {
+        fields::put_le_f64(out, at + 16 * i, *x);
+        fields::put_le_f64(out, at + 16 * i + 8, *y);
     }
 }
 
@@ -76,27 +72,16 @@ fn put_measure(out: &mut [u8], at: usize, flag: bool, low: f64, high: f64, value
 }
 
 // All of a body, field after field.
-pub(crate) fn put_body(
-    out: &mut [u8],
-    parts: bool,
-    z: bool,
-    m: bool,
-    bbox: BBoxZ,
-    counts: &[u32],
-    xs: &[f64],
-    ys: &[f64],
-    zs: &[f64],
-    ms: &[f64],
-)
-    requires { Placed parts z m counts.now xs.now ys.now zs.now ms.now (length out.old) }
-    ensures { out.new ≡ sets out.old 0 (shape_bytes (several_of parts z m bbox counts.now xs.now ys.now zs.now ms.now)) }
+pub(crate) fn put_body(out: &mut [u8], layout: Layout, bbox: BBoxZ, t: &Tables)
+    requires { PlacedLent layout t.now (length out.old) }
+    ensures { out.new ≡ sets out.old 0 (shape_bytes (lent_shape layout bbox t.now)) }
 {
-    let n = xs.len();
-    let pairs_at = front_size(parts, counts.len());
+    let n = t.xs.len();
+    let pairs_at = front_size(layout.parts, t.counts.len());
     let z_at = pairs_at + 16 * n;
-    let m_at = z_at + measure_size(z, n);
-    put_front(out, parts, bbox, counts, n);
-    put_pairs(out, pairs_at, xs, ys);
-    put_measure(out, z_at, z, bbox.zmin, bbox.zmax, zs);
-    put_measure(out, m_at, m, bbox.mmin, bbox.mmax, ms);
+    let m_at = z_at + measure_size(layout.z, n);
+    put_front(out, layout.parts, bbox, t.counts, n);
+    put_pairs(out, pairs_at, t.xs, t.ys);
+    put_measure(out, z_at, layout.z, bbox.zmin, bbox.zmax, t.zs);
+    put_measure(out, m_at, layout.m, bbox.mmin, bbox.mmax, t.ms);
 }
