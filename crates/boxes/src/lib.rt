@@ -5,9 +5,11 @@ ghost use Rattle.std.specs.Prelude.{◌≡◌, cond, get_or};
 ghost use Rattle.boxes.specs.Boxes.{least, greatest, grown, start_box, zero_double, flat, point_box, untouched, settled};
 
 use format::kinds::Kind;
+use format::shapes::Tables;
 use header::bbox::BBoxZ;
 
-// The lesser of the two: b where neither is below the other.
+// The lesser of the two: b where neither is below the other. Two functions, as document 01 names them, and no `f64::min`, which goes by the
+// processor's mode.
 pub fn f64_min(a: f64, b: f64) -> f64
     ensures { result ≡ least a b }
 {
@@ -40,17 +42,15 @@ pub fn grow(own: BBoxZ, held: BBoxZ) -> BBoxZ
 pub fn start_box() -> BBoxZ
     ensures { result ≡ start_box }
 {
-    let largest = fields::double(0x7fef_ffff_ffff_ffff);
-    let smallest = fields::double(0xffef_ffff_ffff_ffff);
     BBoxZ {
-        xmin: largest,
-        ymin: largest,
-        xmax: smallest,
-        ymax: smallest,
-        zmin: largest,
-        zmax: smallest,
-        mmin: largest,
-        mmax: smallest,
+        xmin: f64::MAX,
+        ymin: f64::MAX,
+        xmax: f64::MIN,
+        ymax: f64::MIN,
+        zmin: f64::MAX,
+        zmax: f64::MIN,
+        mmin: f64::MAX,
+        mmax: f64::MIN,
     }
 }
 
@@ -66,31 +66,28 @@ pub fn flat_box(k: Kind, b: BBoxZ) -> BBoxZ
     ensures { result ≡ flat k b }
 {
     BBoxZ {
-        xmin: b.xmin,
-        ymin: b.ymin,
-        xmax: b.xmax,
-        ymax: b.ymax,
         zmin: where_set(k.z, b.zmin),
         zmax: where_set(k.z, b.zmax),
         mmin: where_set(k.m, b.mmin),
         mmax: where_set(k.m, b.mmax),
+        ..b
     }
 }
 
-fn at_or_zero(s: &[f64], i: usize) -> f64
-    ensures { result ≡ get_or s.now i zero_double }
+fn first_or_zero(s: &[f64]) -> f64
+    ensures { result ≡ get_or s.now 0 zero_double }
 {
-    if i < s.len() { s[i] } else { 0.0 }
+    s.first().copied().unwrap_or(0.0)
 }
 
 // A point's own values as a box.
-pub fn point_box(xs: &[f64], ys: &[f64], zs: &[f64], ms: &[f64]) -> BBoxZ
-    ensures { result ≡ point_box xs.now ys.now zs.now ms.now }
+pub fn point_box(t: &Tables) -> BBoxZ
+    ensures { result ≡ point_box t.now.xs.now t.now.ys.now t.now.zs.now t.now.ms.now }
 {
-    let x = at_or_zero(xs, 0);
-    let y = at_or_zero(ys, 0);
-    let z = at_or_zero(zs, 0);
-    let m = at_or_zero(ms, 0);
+    let x = first_or_zero(t.xs);
+    let y = first_or_zero(t.ys);
+    let z = first_or_zero(t.zs);
+    let m = first_or_zero(t.ms);
     BBoxZ {
         xmin: x,
         ymin: y,
@@ -107,11 +104,7 @@ pub fn point_box(xs: &[f64], ys: &[f64], zs: &[f64], ms: &[f64]) -> BBoxZ
 fn at_start(low: f64, high: f64) -> bool
     ensures { result ≡ untouched low high }
 {
-    if fields::same(high, fields::double(0xffef_ffff_ffff_ffff)) {
-        fields::same(low, fields::double(0x7fef_ffff_ffff_ffff))
-    } else {
-        false
-    }
+    fields::same(high, f64::MIN) && fields::same(low, f64::MAX)
 }
 
 // In the end: 0 for a z or m range still at its start values.
@@ -121,13 +114,10 @@ pub fn settle(b: BBoxZ) -> BBoxZ
     let z = !at_start(b.zmin, b.zmax);
     let m = !at_start(b.mmin, b.mmax);
     BBoxZ {
-        xmin: b.xmin,
-        ymin: b.ymin,
-        xmax: b.xmax,
-        ymax: b.ymax,
         zmin: where_set(z, b.zmin),
         zmax: where_set(z, b.zmax),
         mmin: where_set(m, b.mmin),
         mmax: where_set(m, b.mmax),
+        ..b
     }
 }
