@@ -1,7 +1,7 @@
 -- One turn of each loop of the crate, in the loop's own terms: what is left to do before the turn is the turn and what is left after it.
 use mathlib.Core.Path.{◌≡◌, refl, sym, ap, ◌∙◌}
 use mathlib.Core.List.{List, ◌∷◌, ◌++◌, flatten}
-use Prim.Native.Nat.{ℕ, suc, ◌+◌, ◌*◌, ◌<◌}
+use Prim.Native.Nat.{ℕ, ◌+◌, ◌*◌, ◌<◌}
 use native.Mathlib.Numerals.{add-one}
 use native.Mathlib.Omega.{arith}
 use lib.Ieee.{Float}
@@ -28,6 +28,9 @@ starts_turn out at i a counts h =
 
 -- ---- pairs that run on
 
+each_part : {i n : ℕ} {x a y b : Float} → ◌≡◌ {A = ℕ × (Float × Float)} (i, (x, y)) (n, (a, b)) → (i ≡ n) × (x ≡ a) × (y ≡ b)
+each_part e = (ap (λ (q : ℕ × (Float × Float)). q.0) e, ap (λ (q : ℕ × (Float × Float)). q.1.0) e, ap (λ (q : ℕ × (Float × Float)). q.1.1) e)
+
 -- the i-th pair of a run over both lists, by where it stands
 pub pair_at : (xs ys : List Float) (n i : ℕ) (x y : Float) → length ys ≡ length xs → n < length (enumerate_from 0 (zip xs ys)) → (i, (x, y)) ≡ get_or (enumerate_from 0 (zip xs ys)) n (i, (x, y))
     → (n < length xs) × (i ≡ n) × (drop n xs ≡ x ∷ drop (n + 1) xs) × (drop n ys ≡ y ∷ drop (n + 1) ys)
@@ -36,10 +39,11 @@ pair_at xs ys n i x y same h e =
     let ky : n < length ys = omega arith in
     let z : n < length (zip xs ys) = omega (arith, length-enumerate_from 0 (zip xs ys)) in
     let z0 : 0 + n ≡ n = omega arith in
-    let p : (i, (x, y)) ≡ (0 + n, (get_or xs n x, get_or ys n y)) = e ∙ (get_or-enumerate_from 0 (zip xs ys) n (i, (x, y)) z ∙ ap (λ (q : Float × Float). (0 + n, q)) (get_or-zip xs ys n (x, y) k ky)) in
-    let ex : x ≡ get_or xs n x = ap (λ (q : ℕ × (Float × Float)). q.1.0) p in
-    let ey : y ≡ get_or ys n y = ap (λ (q : ℕ × (Float × Float)). q.1.1) p in
-    (k, ap (λ (q : ℕ × (Float × Float)). q.0) p ∙ z0, rw add-one (drop-cons xs n x k ∙ ap (λ a. a ∷ drop (suc n) xs) (sym ex)), rw add-one (drop-cons ys n y ky ∙ ap (λ a. a ∷ drop (suc n) ys) (sym ey)))
+    let there = rw (z0, get_or-zip xs ys n (x, y) k ky) at (get_or-enumerate_from 0 (zip xs ys) n (i, (x, y)) z) in
+    let parts : (i ≡ n) × (x ≡ get_or xs n x) × (y ≡ get_or ys n y) = each_part (e ∙ there) in
+    let dx = drop-cons xs n x k in
+    let dy = drop-cons ys n y ky in
+    (k, parts.0, rw add-one (cc), rw add-one (cc))
 
 -- what is left, from point n on, at the place of point n, once x and y of that point are stored
 pub pairs_turn : (out l1 l2 : List ℕ) (at n i m : ℕ) (xs ys : List Float) (x y : Float) → i ≡ n → m ≡ n + 1 → drop n xs ≡ x ∷ drop (n + 1) xs → drop n ys ≡ y ∷ drop (n + 1) ys

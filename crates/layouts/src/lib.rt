@@ -52,6 +52,7 @@ pub fn write_body(
     Ok(size)
 }
 
+// One function for each layout with parts, over stores of their own: document 01 asks for these.
 pub fn write_point_shape(
     out: &mut [u8],
     bbox: BBoxZ,
