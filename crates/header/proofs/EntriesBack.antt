@@ -8,7 +8,7 @@ use lib.ListN.{length, take}
 use lib.Seq.{drop_at, take-add}
 use mir.Syntax.{w32}
 use mir.Val.{SFits, of_z}
-use borrow.Author.Tests.{leb-true}
+use borrow.Author.Tests.{le-leb, leb-true}
 use Rattle.format.specs.Bytes.{field}
 use Rattle.format.specs.Encoding.{two_big}
 use Rattle.format.specs.Numbers.{be_i32, i32_be}
@@ -36,7 +36,8 @@ module _ {A : Type 0} (make : ℤ → ℤ → A) where
   two_back a b f g =
       let s = two_big (of_z w32 a) (of_z w32 b) in
       let h : 8 ≤ length s = omega (arith, length_two (of_z w32 a) (of_z w32 b)) in
-      sym (both_whole make s a b h (sym (be_i32-back a f 0 s (at_first a b))) (sym (be_i32-back b g 4 s (at_second a b))))
+      let k : 4 ≤ length s = omega arith in
+      sym (both_whole make s a b (le-leb 4 (length s) k, sym (be_i32-back a f 0 s (at_first a b))) (le-leb 8 (length s) h, sym (be_i32-back b g 4 s (at_second a b))))
 
   two-written : (bytes : A → List ℕ) → ((a b : ℤ) → bytes (make a b) ≡ two_big (of_z w32 a) (of_z w32 b)) → (s : List ℕ) (x : A) → AllBytes s → two_of make s ≡ gives x → bytes x ≡ take 8 s
   unfolding two_of

@@ -1,61 +1,69 @@
--- Laws of the header's definition, as the code's tests meet it: past test k, what is left of the tests has the answer.
-use mathlib.Core.Path.{◌≡◌, refl, sym, ◌∙◌}
+-- Laws of the header's definition, as the code's tests meet it.
+use mathlib.Core.Path.{◌≡◌, refl, sym, ap, ◌∙◌}
 use mathlib.Core.Bool.{true, false}
 use mathlib.Core.List.{List}
-use Prim.Native.Nat.{ℕ, suc, ◌+◌, ◌*◌, ◌^◌, ◌≤◌, ◌<◌}
+use Prim.Native.Nat.{ℕ, ◌+◌, ◌*◌, ◌^◌, ◌<◌}
 use native.Mathlib.Nat.{add-zero}
 use native.Mathlib.Omega.{arith}
 use lib.Dec.{lit<}
 use lib.Ieee.{Float}
 use lib.IntN.{ℤ, pos, negsuc}
-use lib.ListN.{length, get_or}
-use lib.Signed.{mag}
+use lib.ListN.{get_or}
+use lib.Signed.{mag, lt_z, non_neg}
 use mir.Syntax.{w32}
-use mir.Val.{of_z}
+use mir.Val.{SFits, to_z, of_z}
+use mir.ValLaws.{to_z-of_z}
 use borrow.Author.Tests.{eq-eqb, ne_eqb}
+use Rattle.std.specs.Prelude.{Result, Ok, Err}
+use Rattle.std.specs.Result.{IsErrAnd}
+use Rattle.format.specs.declared.kinds.Kind.{Kind}
+use Rattle.format.specs.declared.kinds.UnknownKind.{UnknownKind}
+use Rattle.format.specs.declared.shapes.Short.{Short}
+use Rattle.format.specs.Kinds.{known, said_found, kind_of}
 use Rattle.format.specs.Numbers.{be_i32, le_i32, le_f64, doubles_at}
-use Rattle.format.specs.Said.{Said, gives, short}
+use Rattle.format.specs.Said.{short, is_given}
+use Rattle.format.proofs.KindLaws.{known_found}
 use Rattle.format.proofs.NumberLaws.{doubles-at}
-use Rattle.format.proofs.OrderLaws.{rest, ok_at, no_at, on, stop, fields_whole, cut_place, cut_count, fields_cut}
-use Rattle.header.specs.declared.bbox.BBoxZ.{BBoxZ}
+use Rattle.format.proofs.SignLaws.{sign_test, non_neg_yes, non_neg_no}
 use Rattle.header.specs.declared.Header.{Header}
+use Rattle.header.specs.declared.HeaderError.{HeaderError}
+use Rattle.header.specs.declared.HeaderError.TheVariants as ErrorIs
 use Rattle.header.specs.Box.{box_at}
-use Rattle.header.specs.Reading.{is9994, header_in, header_tests, header_of}
+use Rattle.header.specs.Reading.{said, is9994}
 
-abbrev pub left : ℕ → List ℕ → Said Header
-left k s = rest k (header_tests s) (gives (header_in s))
+-- what leaves the reader where a field is cut
+pub cut_short : (r : Result Header HeaderError) (e : Short) (at present : ℕ) → IsErrAnd r (λ f. f ≡ ErrorIs.Short e) → e ≡ record { at = at; present = present } → said r ≡ short at present
+cut_short (Ok h) e at present p q = absurd p
+cut_short (Err f) e at present p q = rw (p, q)
 
-pub start : (s : List ℕ) → header_of s ≡ left 0 s
-unfolding header_of
-start s = refl
-
--- a test passed, and the next stands
-pub past : (s : List ℕ) (k : ℕ) → header_of s ≡ left k s → ok_at k (header_tests s) ≡ true → header_of s ≡ left (suc k) s
-past s k p e = on (header_tests s) (gives (header_in s)) (header_of s) k p e
-
--- a test failed, and its refusal is the answer
-pub refused : (s : List ℕ) (k : ℕ) → header_of s ≡ left k s → ok_at k (header_tests s) ≡ false → no_at k (header_tests s) (gives (header_in s)) ≡ header_of s
-refused s k p e = stop (header_tests s) (gives (header_in s)) (header_of s) k p e
-
--- the eight doubles, past the other tests
-pub cut : (s : List ℕ) → header_of s ≡ left 8 s → 36 ≤ length s → length s < 100 → short (cut_place 8 36 (length s)) (cut_count 8 36 (length s)) ≡ header_of s
-cut s p h k = sym (p ∙ fields_cut 8 (lit< tt) 8 36 s short (gives (header_in s)) h k)
-
-pub uncut : (s : List ℕ) → header_of s ≡ left 8 s → 100 ≤ length s → header_of s ≡ gives (header_in s)
-uncut s p h = p ∙ fields_whole 8 (lit< tt) 8 36 s short (gives (header_in s)) h
+-- ---- what code tests, and the definition's test
 
 -- `z == 9994` in code is of z's bits
-pub is9994-yes : (z : ℤ) → mag z < 2 ^ 31 → of_z w32 z ≡ 9994 → is9994 z ≡ true
+is9994-yes : (z : ℤ) → mag z < 2 ^ 31 → of_z w32 z ≡ 9994 → is9994 z ≡ true
 is9994-yes (pos n) f e = eq-eqb n 9994 e
 is9994-yes (negsuc n) f e = absurd (omega arith)
 
-pub is9994_no : (z : ℤ) → (of_z w32 z ≡ 9994 → ⊥) → is9994 z ≡ false
+is9994_no : (z : ℤ) → (of_z w32 z ≡ 9994 → ⊥) → is9994 z ≡ false
 is9994_no (pos n) e = ne_eqb n 9994 e
 is9994_no (negsuc n) e = refl
 
--- a header whose parts are those that the bytes hold
-pub made : (s : List ℕ) (w v k : ℤ) (b : BBoxZ) → w ≡ be_i32 24 s → v ≡ le_i32 28 s → k ≡ le_i32 32 s → b ≡ box_at 36 s → gives (record { file_length = record { 0 = w }; version = v; shape_type = k; bbox = b }) ≡ gives (header_in s)
-made s w v k b e f g h = λ i. gives (record { file_length = record { 0 = e i }; version = f i; shape_type = g i; bbox = h i })
+pub code-right : (z : ℤ) (s : List ℕ) → SFits w32 z → z ≡ be_i32 0 s → of_z w32 z ≡ 9994 → is9994 (be_i32 0 s) ≡ true
+code-right z s f e h = ap is9994 (sym e) ∙ is9994-yes z f.sfits h
+
+pub code-wrong : (z : ℤ) (s : List ℕ) → z ≡ be_i32 0 s → (of_z w32 z ≡ 9994 → ⊥) → is9994 (be_i32 0 s) ≡ false
+code-wrong z s e h = ap is9994 (sym e) ∙ is9994_no z h
+
+module _ (z : ℤ) (s : List ℕ) (f : SFits w32 z) (e : z ≡ be_i32 24 s) where
+  pub length-right : lt_z (to_z w32 (of_z w32 z)) (pos 0) ≡ false → non_neg (be_i32 24 s) ≡ true
+  length-right h = ap non_neg (sym e) ∙ non_neg_yes z (sign_test w32 z f false h)
+
+  pub length-wrong : lt_z (to_z w32 (of_z w32 z)) (pos 0) ≡ true → non_neg (be_i32 24 s) ≡ false
+  length-wrong h = ap non_neg (sym e) ∙ non_neg_no z (sign_test w32 z f true h)
+
+pub found_is : (z : ℤ) (s : List ℕ) (r r' : Result Kind UnknownKind) → SFits w32 z → z ≡ le_i32 32 s → said_found r ≡ kind_of (to_z w32 (of_z w32 z)) → r ≡ r' → known (le_i32 32 s) ≡ is_given (said_found r')
+found_is z s r r' f e h q = known_found _ r (h ∙ ap kind_of (to_z-of_z w32 z f ∙ e)) r' q
+
+-- ---- the box
 
 -- a box whose doubles are the eight that stand there
 pub boxed : (at : ℕ) (s : List ℕ) (l : List Float) (d : Float)

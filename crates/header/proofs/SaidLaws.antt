@@ -5,73 +5,59 @@ use mathlib.Core.List.{List}
 use Prim.Native.Nat.{ℕ}
 use lib.Dec.{eqb}
 use lib.IntN.{nat_abs}
+use Rattle.std.specs.Prelude.{Result, Ok, Err}
+use Rattle.format.specs.declared.kinds.UnknownKind.{UnknownKind}
+use Rattle.format.specs.declared.shapes.Short.{Short}
 use Rattle.format.specs.Said.{Said, gives, refuses}
 use Rattle.format.proofs.SaidLaws.{value, second, told_one}
 use Rattle.header.specs.declared.Header.{Header}
-use Rattle.header.specs.declared.HeaderAnswer.{HeaderAnswer}
-use Rattle.header.specs.declared.HeaderAnswer.TheVariants.{Whole, Short, Code, Size, Unknown}
-use Rattle.header.specs.declared.Wrote.{Wrote}
-use Rattle.header.specs.declared.Wrote.TheVariants as WroteIs
-use Rattle.header.specs.declared.entries.RecordHeader.{RecordHeader}
-use Rattle.header.specs.declared.entries.ShapeIndex.{ShapeIndex}
-use Rattle.header.specs.declared.entries.RecordHeaderAnswer.{RecordHeaderAnswer}
-use Rattle.header.specs.declared.entries.RecordHeaderAnswer.TheVariants as RecordIs
-use Rattle.header.specs.declared.entries.ShapeIndexAnswer.{ShapeIndexAnswer}
-use Rattle.header.specs.declared.entries.ShapeIndexAnswer.TheVariants as EntryIs
-use Rattle.header.specs.Entries.{said_record, said_entry}
+use Rattle.header.specs.declared.HeaderError.{HeaderError}
+use Rattle.header.specs.declared.HeaderError.TheVariants as ErrorIs
+use Rattle.header.specs.Entries.{said_read}
 use Rattle.header.specs.Reading.{said}
 use Rattle.header.specs.Writing.{said_wrote}
 
-tell_header : Said Header → HeaderAnswer
-tell_header (gives h) = Whole h
+tell_header : Said Header → Result Header HeaderError
+tell_header (gives h) = Ok h
 tell_header (refuses n vs) =
-    cond (eqb n 1) (Short (nat_abs (value vs)) (nat_abs (second vs)))
-    (cond (eqb n 2) (Code (value vs))
-    (cond (eqb n 3) (Size (nat_abs (value vs))) (Unknown (value vs))))
+    Err
+    (cond (eqb n 1) (ErrorIs.Short (record { at = nat_abs (value vs); present = nat_abs (second vs) }))
+    (cond (eqb n 2) (ErrorIs.Code (value vs))
+    (cond (eqb n 3) (ErrorIs.Size (nat_abs (value vs))) (ErrorIs.Unknown (value vs)))))
 
-pub said_one : (a b : HeaderAnswer) → said a ≡ said b → a ≡ b
+pub said_one : (a b : Result Header HeaderError) → said a ≡ said b → a ≡ b
 unfolding tell_header
 said_one = told_one said tell_header back
   where
-    back : (a : HeaderAnswer) → tell_header (said a) ≡ a
-    back (Whole h) = refl
-    back (Short at present) = refl
-    back (Code code) = refl
-    back (Size at) = refl
-    back (Unknown code) = refl
+    back : (a : Result Header HeaderError) → tell_header (said a) ≡ a
+    back (Ok h) = refl
+    back (Err (ErrorIs.Short e)) = refl
+    back (Err (ErrorIs.Code code)) = refl
+    back (Err (ErrorIs.Size at)) = refl
+    back (Err (ErrorIs.Unknown code)) = refl
 
-tell_wrote : Said (List ℕ) → Wrote
-tell_wrote (gives bytes) = WroteIs.Whole
-tell_wrote (refuses n vs) = WroteIs.Unknown (value vs)
+tell_wrote : Said (List ℕ) → Result (List ℕ) UnknownKind
+tell_wrote (gives bytes) = Ok bytes
+tell_wrote (refuses n vs) = Err (record { 0 = value vs })
 
-pub said_wrote_one : (bytes : List ℕ) (a b : Wrote) → said_wrote a bytes ≡ said_wrote b bytes → a ≡ b
+pub said_wrote_one : (a b : Result (List ℕ) UnknownKind) → said_wrote a ≡ said_wrote b → a ≡ b
 unfolding tell_wrote
-said_wrote_one bytes = told_one (λ a. said_wrote a bytes) tell_wrote back
+said_wrote_one = told_one said_wrote tell_wrote back
   where
-    back : (a : Wrote) → tell_wrote (said_wrote a bytes) ≡ a
-    back WroteIs.Whole = refl
-    back (WroteIs.Unknown code) = refl
+    back : (a : Result (List ℕ) UnknownKind) → tell_wrote (said_wrote a) ≡ a
+    back (Ok bytes) = refl
+    back (Err e) = refl
 
-tell_record : Said RecordHeader → RecordHeaderAnswer
-tell_record (gives h) = RecordIs.Whole h
-tell_record (refuses n vs) = RecordIs.Short (nat_abs (value vs)) (nat_abs (second vs))
+-- of a record's header and of an index entry
+module _ {A : Type 0} where
+  tell_read : Said A → Result A Short
+  tell_read (gives a) = Ok a
+  tell_read (refuses n vs) = Err (record { at = nat_abs (value vs); present = nat_abs (second vs) })
 
-pub said_record_one : (a b : RecordHeaderAnswer) → said_record a ≡ said_record b → a ≡ b
-unfolding tell_record
-said_record_one = told_one said_record tell_record back
-  where
-    back : (a : RecordHeaderAnswer) → tell_record (said_record a) ≡ a
-    back (RecordIs.Whole h) = refl
-    back (RecordIs.Short at present) = refl
-
-tell_entry : Said ShapeIndex → ShapeIndexAnswer
-tell_entry (gives e) = EntryIs.Whole e
-tell_entry (refuses n vs) = EntryIs.Short (nat_abs (value vs)) (nat_abs (second vs))
-
-pub said_entry_one : (a b : ShapeIndexAnswer) → said_entry a ≡ said_entry b → a ≡ b
-unfolding tell_entry
-said_entry_one = told_one said_entry tell_entry back
-  where
-    back : (a : ShapeIndexAnswer) → tell_entry (said_entry a) ≡ a
-    back (EntryIs.Whole e) = refl
-    back (EntryIs.Short at present) = refl
+  pub said_read_one : (a b : Result A Short) → said_read a ≡ said_read b → a ≡ b
+  unfolding tell_read
+  said_read_one = told_one said_read tell_read back
+    where
+      back : (a : Result A Short) → tell_read (said_read a) ≡ a
+      back (Ok a) = refl
+      back (Err e) = refl

@@ -1,7 +1,8 @@
 -- The header's box as a value of eight doubles, and the paper's box of their bits.
-use Rattle.std.specs.Prelude.{List, [], ◌∷◌, ℕ, ◌+◌, Float}
+use Rattle.std.specs.Prelude.{◌≡◌, List, [], ◌∷◌, ℕ, ◌+◌, ◌*◌, ◌-◌, ◌/◌, ◌%◌, ◌≤◌, ◌<◌, length, Float, Result, Ok, Err}
 use Rattle.std.specs.Float.{binary64}
 use Rattle.std.specs.Float.Ieee.{to_bits}
+use Rattle.format.specs.declared.shapes.Short.{Short}
 use Rattle.format.specs.Encoding.{Box}
 use Rattle.format.specs.Numbers.{le_f64}
 use Rattle.header.specs.declared.bbox.BBoxZ.{BBoxZ}
@@ -23,6 +24,12 @@ box_at at s =
       mmin = le_f64 (at + 48) s;
       mmax = le_f64 (at + 56) s;
     }
+
+-- the box that stands at a place holds these, where it is whole; else the double that the bytes end inside is named, by its place and by how many of
+-- its bytes are present
+abbrev pub ReadsBox : ℕ → List ℕ → Result BBoxZ Short → Type 0
+ReadsBox at s (Ok b) = (at + 64 ≤ length s) × (b ≡ box_at at s)
+ReadsBox at s (Err e) = (length s < at + 64) × (e ≡ record { at = at + (length s - at) / 8 * 8; present = (length s - at) % 8 })
 
 -- its doubles by their bits
 abbrev pub box_bits : BBoxZ → Box

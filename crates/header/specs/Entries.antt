@@ -1,17 +1,14 @@
 -- A record's header and an index entry, read and written: two i32 with the high byte first, in file order.
-use Rattle.std.specs.Prelude.{List, [], ◌∷◌, ℕ, ℤ}
+use Rattle.std.specs.Prelude.{List, [], ◌∷◌, ℕ, ℤ, Result, Ok, Err}
 use Rattle.std.specs.Int.{w32}
 use Rattle.std.proofs.Common.{of_z}
+use Rattle.format.specs.declared.shapes.Short.{Short}
 use Rattle.format.specs.Encoding.{two_big, entry_bytes}
 use Rattle.format.specs.Numbers.{be_i32}
 use Rattle.format.specs.Order.{first, field_at}
 use Rattle.format.specs.Said.{Said, gives, short}
 use Rattle.header.specs.declared.entries.RecordHeader.{RecordHeader}
 use Rattle.header.specs.declared.entries.ShapeIndex.{ShapeIndex}
-use Rattle.header.specs.declared.entries.RecordHeaderAnswer.{RecordHeaderAnswer}
-use Rattle.header.specs.declared.entries.RecordHeaderAnswer.TheVariants as RecordIs
-use Rattle.header.specs.declared.entries.ShapeIndexAnswer.{ShapeIndexAnswer}
-use Rattle.header.specs.declared.entries.ShapeIndexAnswer.TheVariants as EntryIs
 
 -- ---- reading
 
@@ -27,13 +24,15 @@ shape_index offset words = record { offset = record { 0 = offset }; content_leng
 
 -- ---- the answers in document 01's terms
 
-abbrev pub said_record : RecordHeaderAnswer → Said RecordHeader
-said_record (RecordIs.Whole h) = gives h
-said_record (RecordIs.Short at present) = short at present
+abbrev pub said_read : {A : Type 0} → Result A Short → Said A
+said_read (Ok a) = gives a
+said_read (Err e) = short e.at e.present
 
-abbrev pub said_entry : ShapeIndexAnswer → Said ShapeIndex
-said_entry (EntryIs.Whole e) = gives e
-said_entry (EntryIs.Short at present) = short at present
+abbrev pub said_record : Result RecordHeader Short → Said RecordHeader
+said_record = said_read
+
+abbrev pub said_entry : Result ShapeIndex Short → Said ShapeIndex
+said_entry = said_read
 
 -- ---- writing
 

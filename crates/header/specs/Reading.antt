@@ -1,22 +1,22 @@
 -- Reading a header: its fields are taken in file order, and the first one cut or wrong decides.
-use Rattle.std.specs.Prelude.{Bool, false, cond, List, ◌∷◌, ℕ, eqb, leb, ℤ, pos, negsuc}
+use Rattle.std.specs.Prelude.{Bool, false, cond, List, ◌∷◌, ℕ, eqb, leb, ℤ, pos, negsuc, Result, Ok, Err}
 use Rattle.std.specs.Int.Signed.{non_neg}
 use Rattle.format.specs.Kinds.{known}
 use Rattle.format.specs.Numbers.{be_i32, le_i32}
 use Rattle.format.specs.Order.{first, field_at, fields_from}
 use Rattle.format.specs.Said.{Said, gives, short, other_code, wrong_size, unknown}
 use Rattle.header.specs.declared.Header.{Header}
-use Rattle.header.specs.declared.HeaderAnswer.{HeaderAnswer}
-use Rattle.header.specs.declared.HeaderAnswer.TheVariants.{Whole, Short, Code, Size, Unknown}
+use Rattle.header.specs.declared.HeaderError.{HeaderError}
+use Rattle.header.specs.declared.HeaderError.TheVariants.{Short, Code, Size, Unknown}
 use Rattle.header.specs.Box.{box_at}
 
 -- the answers in document 01's terms
-abbrev pub said : HeaderAnswer → Said Header
-said (Whole h) = gives h
-said (Short at present) = short at present
-said (Code code) = other_code code
-said (Size at) = wrong_size at
-said (Unknown code) = unknown code
+abbrev pub said : Result Header HeaderError → Said Header
+said (Ok h) = gives h
+said (Err (Short e)) = short e.at e.present
+said (Err (Code code)) = other_code code
+said (Err (Size at)) = wrong_size at
+said (Err (Unknown code)) = unknown code
 
 abbrev pub is9994 : ℤ → Bool
 is9994 (pos n) = eqb n 9994

@@ -2,7 +2,9 @@
 ghost use Rattle.std.specs.Prelude.{◌≡◌, ◌+◌, ◌≤◌, length};
 ghost use Rattle.std.proofs.lemmas.List.Edits.{sets};
 ghost use Rattle.format.specs.Numbers.{f64s_le};
-ghost use Rattle.header.specs.Box.{box_at, box_list};
+ghost use Rattle.header.specs.Box.{box_at, box_list, ReadsBox};
+
+use format::shapes::Short;
 
 #[repr(C)]
 #[derive(Clone, Copy)]
@@ -18,22 +20,38 @@ pub struct BBoxZ {
 }
 
 // The box from a place on.
-pub(crate) fn box_at(s: &[u8], at: usize) -> BBoxZ
+fn box_at(s: &[u8], at: usize) -> BBoxZ
     requires { at + 64 ≤ length s.now }
     ensures { result ≡ box_at at s.now }
 {
-    let mut a = [0.0; 8];
-    fields::read_doubles(s, at, &mut a);
+    let mut doubles = [0.0; 8];
+    fields::read_doubles(s, at, &mut doubles);
+    let [xmin, ymin, xmax, ymax, zmin, zmax, mmin, mmax] = doubles;
     BBoxZ {
-        xmin: a[0],
-        ymin: a[1],
-        xmax: a[2],
-        ymax: a[3],
-        zmin: a[4],
-        zmax: a[5],
-        mmin: a[6],
-        mmax: a[7],
+        xmin,
+        ymin,
+        xmax,
+        ymax,
+        zmin,
+        zmax,
+        mmin,
+        mmax,
     }
+}
+
+// The same of bytes that may end inside it: then the double that is cut is named.
+pub(crate) fn read_box(s: &[u8], at: usize) -> Result<BBoxZ, Short>
+    requires { at ≤ length s.now }
+    ensures { ReadsBox at s.now result }
+{
+    let rest = s.len() - at;
+    if rest < 64 {
+        return Err(Short {
+            at: at + rest / 8 * 8,
+            present: rest % 8,
+        });
+    }
+    Ok(box_at(s, at))
 }
 
 // The box goes in at a place.
