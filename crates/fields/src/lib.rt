@@ -18,6 +18,9 @@ const SIGN: u64 = 0x8000_0000_0000_0000;
 
 const INFINITY: u64 = 0x7ff0_0000_0000_0000;
 
+// A slice and a place stay two parameters: a cursor would still ask at each call that its field's width is left, which is no plainer.
+// The two byte orders stay two functions: one with a flag would choose at each call which way to go, which is no plainer.
+
 // The number of the k bytes from at on, low byte first.
 pub fn le_number(s: &[u8], at: usize, k: usize) -> u64
     requires { (k ≤ 8) × (at + k ≤ length s.now) }
