@@ -1,6 +1,6 @@
 -- An add that was taken passed every test: what follows of its kind, of the shape that was lent, and of the next state.
 use mathlib.Core.Path.{◌≡◌, refl, sym, ap, ◌∙◌, subst}
-use mathlib.Core.Bool.{Bool, true, false, cond, ◌&&◌, ◌||◌, not}
+use mathlib.Core.Bool.{Bool, true, false, ◌&&◌, ◌||◌, not}
 use mathlib.Core.List.{List, [], ◌∷◌}
 use mathlib.Core.Option.{Option, none, some}
 use Prim.Native.Nat.{ℕ, ◌+◌, ◌*◌, ◌-◌, ◌^◌, ◌≤◌, ◌<◌}
@@ -30,12 +30,13 @@ use Rattle.layouts.specs.Steps.{Agreed}
 use Rattle.layouts.specs.Tables.{points_lent}
 use Rattle.layouts.proofs.TableLaws.{agreed, parts-in, points-in, several_of_kind}
 use Rattle.writer.specs.declared.State.{State}
-use Rattle.writer.specs.declared.AddAnswer.{AddAnswer}
-use Rattle.writer.specs.declared.AddAnswer.TheVariants as AddIs
-use Rattle.writer.specs.declared.FinishAnswer.{FinishAnswer}
-use Rattle.writer.specs.declared.FinishAnswer.TheVariants as FinishIs
+use Rattle.std.specs.Prelude.{Result, Ok, Err}
+use Rattle.writer.specs.declared.AddError.{AddError}
+use Rattle.writer.specs.declared.AddError.TheVariants.{Size}
+use Rattle.writer.specs.declared.Headers.{Headers}
+use Rattle.writer.specs.declared.NoState.{NoState}
 use Rattle.writer.specs.Adding.{Lent, said_add, form_or, lent_kind, lent_form, point_shape, lent_shape, lent_agree, words_then, points_then, record_size, add_tests, kind_then, next_state, adding_of}
-use Rattle.writer.specs.Finishing.{said_finish}
+use Rattle.writer.specs.Finishing.{headers_of, Finishes}
 use Rattle.writer.specs.State.{is_zero, state_fine}
 use Rattle.writer.proofs.ShapeLaws.{lent_nothing, lent-point, lent-several, several-agree, there-value}
 use Rattle.writer.proofs.StateLaws.{Fine, fine}
@@ -68,14 +69,15 @@ abbrev NotSize : Said ℕ → Type 0
 NotSize (gives n) = Unit {0}
 NotSize (refuses n vs) = n ≡ 3 → ⊥
 
-pub never_size : (s : State) (t : Lent) (out start entry : ℕ) (a : AddAnswer) → state_fine s ≡ true → said_add a ≡ adding_of s t out start entry → a ≡ AddIs.Size → ⊥
+pub never_size : (s : State) (t : Lent) (out start entry : ℕ) (a : Result ℕ AddError) → state_fine s ≡ true → said_add a ≡ adding_of s t out start entry → a ≡ Err Size → ⊥
 unfolding adding_of
 never_size s t out start entry a f e size =
     let said : NotSize (adding_of s t out start entry) = rw f (first_holds NotSize (drop 1 (add_tests s t out start entry)) (gives (record_size t)) (omega arith) tt) in
     subst NotSize (sym e ∙ ap said_add size) said refl
 
-pub never_finishing : (s : State) (a : FinishAnswer) → state_fine s ≡ true → said_finish a ≡ cond (state_fine s) (gives tt) (wrong_size 0) → a ≡ FinishIs.Size → ⊥
-never_finishing s a f e size = let same : wrong_size 0 ≡ gives tt = sym (ap said_finish size) ∙ (e ∙ rw f) in absurd (let z : ◌≡◌ {A = ℕ} 0 1 = cc in omega arith)
+pub never_finishing : (s : State) (r : Result Headers NoState) → state_fine s ≡ true → Finishes s r → r ≡ Ok (headers_of s)
+never_finishing s (Ok h) f e = let same : gives h ≡ gives (headers_of s) = e.says ∙ rw f in cc
+never_finishing s (Err x) f e = let same : wrong_size 0 ≡ gives (headers_of s) = e.says ∙ rw f in absurd (let z : ◌≡◌ {A = ℕ} 0 1 = cc in omega arith)
 
 pub accepted : (s : State) (t : Lent) (out start entry n : ℕ) → adding_of s t out start entry ≡ gives n → Accepted s t
 unfolding adding_of

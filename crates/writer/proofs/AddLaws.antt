@@ -1,17 +1,15 @@
 -- Laws of adding a record that passed every test: what its writers ask, and that what they leave is what document 01 says.
-use mathlib.Core.Path.{◌≡◌, refl, sym, ap, ◌∙◌, subst}
-use mathlib.Core.Bool.{true}
+use mathlib.Core.Path.{◌≡◌, refl, sym, ap, ◌∙◌}
 use mathlib.Core.List.{List}
 use Prim.Native.Nat.{ℕ, ◌+◌, ◌*◌, ◌-◌, ◌^◌, ◌≤◌, ◌<◌}
 use native.Mathlib.Omega.{arith}
-use lib.Dec.{T, eqb}
+use lib.Dec.{eqb}
 use lib.IntN.{pos, nat_abs}
 use lib.ListN.{length}
 use lib.Seq.{sets}
 use mir.Syntax.{w32}
 use mir.Val.{of_z}
 use Rattle.format.specs.declared.kinds.Kind.{Kind}
-use Rattle.format.specs.declared.units.Bytes.{Bytes}
 use Rattle.format.specs.declared.units.Words.{Words}
 use Rattle.format.specs.Encoding.{shape_words, record_bytes, two_big}
 use Rattle.format.specs.Lengths.{Form, nothing, one_point, many_points, parts}
@@ -21,10 +19,12 @@ use Rattle.format.proofs.KindLaws.{code_is}
 use Rattle.format.proofs.LengthLaws.{Flags, form_flags, form-several}
 use Rattle.format.proofs.Records.{points-least}
 use Rattle.writer.specs.declared.State.{State}
-use Rattle.writer.specs.declared.AddAnswer.{AddAnswer}
-use Rattle.writer.specs.declared.AddAnswer.TheVariants.{Added, Size, Unknown, NotTaken, Mismatch, Tables, Long, Room}
-use Rattle.writer.specs.Adding.{Lent, lent_shape, record_size, record_of, entry_of, kind_then, box_then, next_state, said_add, Adds}
-use Rattle.writer.specs.Judging.{natural_of, words_of, Whole, is_refused, form_by, shape_by, words_by, AllPassed, AllRefused, Ready, kind_by, box_by, next_by}
+use Rattle.std.specs.Prelude.{Err}
+use Rattle.writer.specs.declared.AddError.{AddError}
+use Rattle.writer.specs.declared.AddError.TheVariants.{Size, Unknown, NotTaken, Mismatch, Tables, Long, Room}
+use Rattle.writer.specs.declared.judge.Judged.{Judged}
+use Rattle.writer.specs.Adding.{Lent, lent_shape, record_size, record_of, entry_of, kind_then, box_then, next_state, said_refusal, Adds}
+use Rattle.writer.specs.Judging.{natural_of, words_of, Whole, form_by, shape_by, words_by, AllPassed, AllRefused, Ready, kind_by, box_by, next_by}
 use Rattle.writer.specs.State.{is_zero}
 use Rattle.writer.proofs.LengthLaws.{whole-bytes}
 use Rattle.writer.proofs.ShapeLaws.{lent-kind, lent-form, shape_is, words_are, points-lent}
@@ -32,19 +32,21 @@ use Rattle.writer.proofs.StateLaws.{Fine, fine, number_natural}
 
 -- ---- a refusal leaves all as it was
 
-refused_keeps {ℓ} : {B : Type ℓ} (a : AddAnswer) (x y : B) → is_refused a ≡ true → x ≡ unless_refused (said_add a) x y
-refused_keeps (Added n) x y e = absurd (subst T (sym e) tt)
-refused_keeps Size x y e = refl
-refused_keeps (Unknown code) x y e = refl
-refused_keeps (NotTaken code) x y e = refl
-refused_keeps (Mismatch wanted found) x y e = refl
-refused_keeps Tables x y e = refl
-refused_keeps Long x y e = refl
-refused_keeps (Room n) x y e = refl
+refused_keeps {ℓ} : {B : Type ℓ} (e : AddError) (x y : B) → x ≡ unless_refused (said_refusal e) x y
+refused_keeps Size x y = refl
+refused_keeps (Unknown code) x y = refl
+refused_keeps (NotTaken code) x y = refl
+refused_keeps (Mismatch held found) x y = refl
+refused_keeps Tables x y = refl
+refused_keeps Long x y = refl
+refused_keeps (Room n) x y = refl
 
 -- ---- what passed
 
-module _ (s : State) (t : Lent) (out start entry : ℕ) (k : Kind) (w after : Words) (size : Bytes) (p : AllPassed s t out start entry k w after size) where
+module _ {s : State} {t : Lent} {out start entry : ℕ} {j : Judged} (p : AllPassed s t out start entry j) where
+  abbrev k : Kind
+  k = j.kind
+
   numbers : Fine s
   numbers = fine s p.fine
 
@@ -68,13 +70,13 @@ module _ (s : State) (t : Lent) (out start entry : ℕ) (k : Kind) (w after : Wo
         room = omega (arith, whole);
       }
 
-  pub size-whole : Whole size
-  size-whole = whole-bytes (record_size t) size p.shape.size_is
+  pub size-whole : Whole j.size
+  size-whole = whole-bytes (record_size t) j.size p.shape.size_is
 
   pub code : t.code ≡ pos k.code
   code = code_is t.code k p.shape.of_code.kind_is
 
-  pub content : w ≡ words_of (words_by k t.counts t.xs)
+  pub content : j.content ≡ words_of (words_by k t.counts t.xs)
   content = p.shape.words_are ∙ ap words_of words
 
   pub next_number : natural_of s.number + 1 < 2 ^ 31
@@ -105,7 +107,7 @@ module _ (s : State) (t : Lent) (out start entry : ℕ) (k : Kind) (w after : Wo
   box-then many_points f = rw (is-zero, f.null_is, form-several k many_points f, p.shape.of_code.kind_is)
   box-then parts f = rw (is-zero, f.null_is, form-several k parts f, p.shape.of_code.kind_is)
 
-  pub next_is : next_by s.number after (kind_by s t.code) (s.points + length t.xs) (box_by s t.code k t.box t.xs t.ys t.zs t.ms) ≡ next_state s t
+  pub next_is : next_by s.number j.after (kind_by s t.code) (s.points + length t.xs) (box_by s t.code k t.box t.xs t.ys t.zs t.ms) ≡ next_state s t
   unfolding next_state
   next_is =
       let form = sym (lent-form t k p.shape.of_code) in
@@ -126,22 +128,22 @@ module _ (s : State) (t : Lent) (out start entry : ℕ) (k : Kind) (w after : Wo
   words-bits : of_z w32 s.words.0 ≡ nat_abs s.words.0
   words-bits = ap (of_z w32) numbers.words-is
 
-  content-bits : of_z w32 w.0 ≡ shape_words (lent_shape t)
+  content-bits : of_z w32 j.content.0 ≡ shape_words (lent_shape t)
   content-bits = ap (λ (v : Words). of_z w32 v.0) p.shape.words_are
 
   pub record-of : record_bytes k (of_z w32 s.number) (shape_by k t.box t.counts t.xs t.ys t.zs t.ms) ≡ record_of s t
   record-of = λ i. record_bytes (sym (lent-kind t k p.shape.of_code) i) (number-bits i) (sym shape i)
 
-  pub entry-of : two_big (of_z w32 s.words.0) (of_z w32 w.0) ≡ entry_of s t
+  pub entry-of : two_big (of_z w32 s.words.0) (of_z w32 j.content.0) ≡ entry_of s t
   entry-of = λ i. two_big (words-bits i) (content-bits i)
 
 -- ---- a refusal, whole
 
-pub adds-refused : (s : State) (t : Lent) (out : List ℕ) (start : ℕ) (entry : List ℕ) (a : AddAnswer) → AllRefused s t (length out) start (length entry) a → Adds s t out start entry (record { answer = a; state = s }) out entry
-adds-refused s t out start entry a r =
+pub adds-refused : (s : State) (t : Lent) (out : List ℕ) (start : ℕ) (entry : List ℕ) (e : AddError) → AllRefused s t (length out) start (length entry) e → Adds s t out start entry (record { answer = Err e; state = s }) out entry
+adds-refused s t out start entry e r =
     record {
       says = r.says;
-      state_is = refused_keeps a s (next_state s t) r.refused;
-      out_is = refused_keeps a out (sets out start (record_of s t)) r.refused;
-      entry_is = refused_keeps a entry (sets entry 0 (entry_of s t)) r.refused;
+      state_is = refused_keeps e s (next_state s t);
+      out_is = refused_keeps e out (sets out start (record_of s t));
+      entry_is = refused_keeps e entry (sets entry 0 (entry_of s t));
     }

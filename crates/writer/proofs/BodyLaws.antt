@@ -22,7 +22,8 @@ use Rattle.format.proofs.Equations as Equations
 use Rattle.format.proofs.Equations.{f64_le-is, f64s_le-nil, f64s_le-cons, words_are, fixed_point, each_point, shape-null, shape-point, content-bytes}
 use Rattle.format.proofs.LengthLaws.{some_words}
 use Rattle.header.specs.declared.bbox.BBoxZ.{BBoxZ}
-use Rattle.layouts.specs.declared.LayoutAnswer.{LayoutAnswer}
+use Rattle.std.specs.Prelude.{Result}
+use Rattle.layouts.specs.declared.LayoutError.{LayoutError}
 use Rattle.layouts.specs.Answers.{lent_size, layout_of, WritesBody}
 use Rattle.layouts.specs.Steps.{Agreed}
 use Rattle.layouts.specs.Tables.{several_of}
@@ -83,7 +84,7 @@ module _ (k : Kind) (b : BBoxZ) (counts : List ℕ) (xs ys zs ms : List Float) w
     gives_all : layout_of k.parts k.z k.m counts xs ys zs ms (length out) ≡ gives (lent_size k.parts k.z k.m counts xs)
     gives_all = all_pass k.parts k.z k.m counts xs ys zs ms (length out) (rw e at r.agrees) r.counts-held (rw e at r.room)
 
-    pub several-body : (answer : LayoutAnswer) (out' : List ℕ) → WritesBody k.parts k.z k.m b counts xs ys zs ms out answer out' → out' ≡ sets out 0 (shape_bytes (shape_by k b counts xs ys zs ms))
+    pub several-body : (answer : Result ℕ LayoutError) (out' : List ℕ) → WritesBody k.parts k.z k.m b counts xs ys zs ms out answer out' → out' ≡ sets out 0 (shape_bytes (shape_by k b counts xs ys zs ms))
     several-body answer out' h =
         h.out_is
         ∙ (ap (λ (s : Said ℕ). unless_refused s out (sets out 0 (shape_bytes (several_of k.parts k.z k.m b counts xs ys zs ms)))) (h.says ∙ gives_all)

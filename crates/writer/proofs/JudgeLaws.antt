@@ -1,5 +1,5 @@
 -- Laws of the judge of state and kind: which test each of its answers is about.
-use mathlib.Core.Path.{◌≡◌, refl, sym, ap, ◌∙◌}
+use mathlib.Core.Path.{◌≡◌, refl, sym, ap, ◌∙◌, subst}
 use mathlib.Core.Bool.{Bool, true, false, ◌&&◌, ◌||◌, not}
 use mathlib.Core.Option.{Option, none, some}
 use Prim.Native.Nat.{ℕ, ◌^◌, ◌<◌}
@@ -19,8 +19,11 @@ use Rattle.format.specs.Units.{same_int}
 use Rattle.format.proofs.KindLaws.{code_is, known-there}
 use Rattle.format.proofs.LengthLaws.{Flags, form_flags, form-several}
 use Rattle.writer.specs.declared.State.{State}
-use Rattle.writer.specs.declared.AddAnswer.TheVariants.{Size, Unknown, NotTaken, Mismatch}
-use Rattle.writer.specs.declared.states.Looked.TheVariants as LookedIs
+use Rattle.std.specs.Prelude.{Result, Ok, Err}
+use Rattle.format.specs.declared.lengths.KindError.{KindError}
+use Rattle.format.specs.declared.lengths.KindError.TheVariants as KindIs
+use Rattle.writer.specs.declared.AddError.TheVariants.{NotTaken, Mismatch}
+use Rattle.writer.specs.Adding.{kind_refused}
 use Rattle.writer.specs.Judging.{by_form, by_kind, look_up, form_by, OfCode, KindFine, KindRefused}
 use Rattle.writer.specs.State.{is_zero, state_fine}
 use Rattle.writer.proofs.KindLaws.{is_taken, taken_is, looked_kind}
@@ -37,9 +40,13 @@ zero_no (negsuc n) e = refl
 
 -- ---- the kind's form
 
-looked_form : (k : Kind) (f : Formula) (o : Option Form) → by_form k o ≡ LookedIs.Taken k f → (form : Form) × (o ≡ some form) × (f ≡ formula form k.z k.m)
-looked_form k f none e = absurd (let z : ◌≡◌ {A = ℕ} 0 1 = cc in omega arith)
-looked_form k f (some form) e = (form, refl, cc)
+looked_form : (code : ℤ) (k : Kind) (f : Formula) (o : Option Form) → by_form code k o ≡ Ok (k, f) → (form : Form) × (o ≡ some form) × (f ≡ formula form k.z k.m)
+looked_form code k f none e = absurd (let z : ◌≡◌ {A = ℕ} 0 1 = cc in omega arith)
+looked_form code k f (some form) e = (form, refl, sym (ap formula_in e))
+  where
+    formula_in : Result (Kind × Formula) KindError → Formula
+    formula_in (Ok p) = p.1
+    formula_in (Err x) = f
 
 form-of : (k : Kind) (form : Form) → Flags k form → form ≡ form_by k
 form-of k nothing f = rw (form-several k nothing f, f.null_is)
@@ -48,32 +55,9 @@ form-of k many_points f = rw (form-several k many_points f, f.parts_is)
 form-of k parts f = rw (form-several k parts f, f.parts_is)
 
 module _ (code : ℤ) where
-  none-known : look_up code ≡ LookedIs.Unknown → known code ≡ false
-  unfolding look_up
-  none-known e = known-there code ∙ go (kind_at code) e
-    where
-      by : (k : Kind) (o : Option Form) → by_form k o ≡ LookedIs.Unknown → true ≡ false
-      by k none q = cc
-      by k (some form) q = cc
-
-      go : (o : Option Kind) → by_kind o ≡ LookedIs.Unknown → there o ≡ false
-      go none q = refl
-      go (some k) q = by k (form_of k) q
-
-  not_known : look_up code ≡ LookedIs.NotTaken → known code ≡ true
-  unfolding look_up
-  not_known e = known-there code ∙ go (kind_at code) e
-    where
-      go : (o : Option Kind) → by_kind o ≡ LookedIs.NotTaken → there o ≡ true
-      go none q = cc
-      go (some k) q = refl
-
-  untaken : look_up code ≡ LookedIs.NotTaken → there (form_at code) ≡ false
-  untaken e = taken_is code ∙ ap is_taken e
-
-  module _ (k : Kind) (f : Formula) (e : look_up code ≡ LookedIs.Taken k f) where
+  module _ (k : Kind) (f : Formula) (e : look_up code ≡ Ok (k, f)) where
     here : kind_at code ≡ some k
-    here = looked_kind code k f e
+    here = looked_kind code (k, f) e
 
     is_known : known code ≡ true
     is_known = known-there code ∙ ap there here
@@ -86,7 +70,7 @@ module _ (code : ℤ) where
 
     formed : (form : Form) × (form_of k ≡ some form) × (f ≡ formula form k.z k.m)
     unfolding look_up
-    formed = looked_form k f (form_of k) (sym (ap by_kind here) ∙ e)
+    formed = looked_form code k f (form_of k) (sym (ap (by_kind code) here) ∙ e)
 
     form-at : form_at code ≡ form_of k
     form-at = rw here
@@ -103,22 +87,30 @@ module _ (code : ℤ) where
 -- ---- the judge's answers
 
 module _ (s : State) (code : ℤ) where
-  pub no_state : state_fine s ≡ false → KindRefused s code Size
-  no_state e = record { refused = refl; says = λ more x. rw e }
-
   module _ (fine : state_fine s ≡ true) where
-    pub no_kind : look_up code ≡ LookedIs.Unknown → KindRefused s code (Unknown code)
-    no_kind e = record { refused = refl; says = λ more x. rw (fine, none-known code e) }
+    -- a code that the table does not have, and a kind that is not taken
+    pub no_kind : (e : KindError) → look_up code ≡ Err e → KindRefused s code (kind_refused e)
+    unfolding look_up
+    no_kind e h = go (kind_at code) refl h
+      where
+        by : (k : Kind) (o : Option Form) → kind_at code ≡ some k → form_of k ≡ o → by_form code k o ≡ Err e → KindRefused s code (kind_refused e)
+        by k none g f q =
+            let same : KindIs.NotTaken code ≡ e = cc in
+            subst (λ (x : KindError). KindRefused s code (kind_refused x)) same (record { says = λ more x. rw (fine, known-there code, g, f) })
+        by k (some form) g f q = absurd (let z : ◌≡◌ {A = ℕ} 0 1 = cc in omega arith)
 
-    pub no_taken : look_up code ≡ LookedIs.NotTaken → KindRefused s code (NotTaken code)
-    no_taken e = record { refused = refl; says = λ more x. rw (fine, not_known code e, untaken code e) }
+        go : (o : Option Kind) → kind_at code ≡ o → by_kind code o ≡ Err e → KindRefused s code (kind_refused e)
+        go none g q =
+            let same : KindIs.Unknown code ≡ e = cc in
+            subst (λ (x : KindError). KindRefused s code (kind_refused x)) same (record { says = λ more x. rw (fine, known-there code, g) })
+        go (some k) g q = by k (form_of k) g refl q
 
-    module _ (k : Kind) (f : Formula) (e : look_up code ≡ LookedIs.Taken k f) where
+    module _ (k : Kind) (f : Formula) (e : look_up code ≡ Ok (k, f)) where
       pub no_null : k.code ≡ 0 → is_zero s.kind ≡ true → KindRefused s code (NotTaken code)
-      no_null h p = record { refused = refl; says = λ more x. rw (fine, is_known code k f e, is-taken code k f e, is-zero code k f e, eq-eqb k.code 0 h, p) }
+      no_null h p = record { says = λ more x. rw (fine, is_known code k f e, is-taken code k f e, is-zero code k f e, eq-eqb k.code 0 h, p) }
 
       pub no_match : (k.code ≡ 0 → ⊥) → is_zero s.kind ≡ false → same_int s.kind code ≡ false → KindRefused s code (Mismatch s.kind code)
-      no_match h p q = record { refused = refl; says = λ more x. rw (fine, is_known code k f e, is-taken code k f e, is-zero code k f e, ne_eqb k.code 0 h, p, q) }
+      no_match h p q = record { says = λ more x. rw (fine, is_known code k f e, is-taken code k f e, is-zero code k f e, ne_eqb k.code 0 h, p, q) }
 
       fine_by : (z p q : Bool) → eqb k.code 0 ≡ z → is_zero s.kind ≡ p → same_int s.kind code ≡ q → not (z && p) ≡ true → p || z || q ≡ true → KindFine s code k f
       fine_by z p q u v w i j =

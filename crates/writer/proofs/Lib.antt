@@ -14,4 +14,3 @@ mod PassLaws
 pub mod ShapeLaws
 pub mod StateLaws
 pub mod StoreLaws
-mod TableLaws

@@ -1,5 +1,5 @@
 -- Laws of the judge of a shape: what the answers of its three judges say of the tests in document 01's order.
-use mathlib.Core.Path.{◌≡◌, refl, sym, ap, ◌∙◌}
+use mathlib.Core.Path.{◌≡◌, refl, sym, ap, ◌∙◌, subst}
 use mathlib.Core.Bool.{Bool, true, false, cond, ◌&&◌}
 use Prim.Native.Nat.{ℕ, ◌+◌, ◌-◌, ◌^◌, min}
 use native.Mathlib.Omega.{arith}
@@ -13,59 +13,55 @@ use Rattle.format.specs.declared.units.Bytes.{Bytes}
 use Rattle.format.specs.declared.units.Words.{Words}
 use Rattle.format.specs.Encoding.{shape_words}
 use Rattle.format.specs.Lengths.{formula, formula_words}
-use Rattle.format.specs.Said.{gives, room_bytes}
+use Rattle.format.specs.Said.{gives}
 use Rattle.format.proofs.OrderLaws.{both_true}
 use Rattle.layouts.specs.Answers.{counts_held}
 use Rattle.writer.specs.declared.State.{State}
-use Rattle.writer.specs.declared.AddAnswer.{AddAnswer}
-use Rattle.writer.specs.declared.AddAnswer.TheVariants as AddIs
+use Rattle.std.specs.Prelude.{Result, Ok, Err}
+use Rattle.std.specs.Prelude as Std
+use Rattle.writer.specs.declared.AddError.{AddError}
+use Rattle.writer.specs.declared.AddError.TheVariants.{Tables, Long, Room}
 use Rattle.writer.specs.declared.judge.Judged.{Judged}
-use Rattle.writer.specs.declared.judge.Judged.TheVariants as JudgedIs
-use Rattle.writer.specs.declared.judge.TablesJudged.TheVariants.{Agree, Disagree}
-use Rattle.writer.specs.declared.judge.LengthJudged.TheVariants.{Held, Long}
-use Rattle.writer.specs.declared.judge.RoomJudged.TheVariants.{Fits, Needs}
 use Rattle.writer.specs.Adding.{Lent, lent_kind, lent_shape, lent_agree, words_then, held_then, record_size, shape_tests, adding_of}
-use Rattle.writer.specs.Judging.{words_of, bytes_of, Whole, words_with, record_bytes_of, OfCode, form_by, points_by, agree_by, tables_judged, length_judged, room_judged, KindFine, KindRefused, Passed, Refused, JudgesShape, AllRefused, Judges}
+use Rattle.writer.specs.Judging.{words_of, bytes_of, words_with, record_bytes_of, OfCode, form_by, points_by, agree_by, tables_judged, length_judged, room_judged, KindFine, KindRefused, Passed, Refused, JudgesShape, AllRefused, Judges}
 use Rattle.writer.specs.State.{state_fine}
-use Rattle.writer.proofs.LengthLaws.{record-bytes, whole-bytes}
-use Rattle.writer.proofs.ShapeLaws.{lent-kind, agree-is, shape_is, words_are, counts-held, formula-words}
+use Rattle.writer.proofs.LengthLaws.{record-bytes}
+use Rattle.writer.proofs.ShapeLaws.{lent-kind, agree-is, tables, shape_is, words_are, counts-held, formula-words}
 use Rattle.writer.proofs.StateLaws.{fine, words_natural}
 
 -- ---- an answer says how its test came out
 
-disagree_by : (b : Bool) (m : ℕ) → cond b (Agree m) Disagree ≡ Disagree → b ≡ false
-disagree_by true m e = absurd (let z : ◌≡◌ {A = ℕ} 0 1 = cc in omega arith)
-disagree_by false m e = refl
+module _ {A : Type 0} where
+  not_ok : (b : Bool) (x : A) (e' e : AddError) → cond b (Ok x) (Err e') ≡ Err e → (b ≡ false) × (e' ≡ e)
+  not_ok true x e' e h = absurd (let z : ◌≡◌ {A = ℕ} 0 1 = cc in omega arith)
+  not_ok false x e' e h = (refl, cc)
 
-agree-by : (b : Bool) (m n : ℕ) → cond b (Agree m) Disagree ≡ Agree n → (b ≡ true) × (m ≡ n)
-agree-by true m n e = (refl, cc)
-agree-by false m n e = absurd (let z : ◌≡◌ {A = ℕ} 0 1 = cc in omega arith)
+  is-ok : (b : Bool) (x y : A) (e' : AddError) → cond b (Ok x) (Err e') ≡ Ok y → (b ≡ true) × (x ≡ y)
+  is-ok true x y e' h = (refl, cc)
+  is-ok false x y e' h = absurd (let z : ◌≡◌ {A = ℕ} 0 1 = cc in omega arith)
 
-long_by : (b : Bool) (w v : Words) → cond b (Held w v) Long ≡ Long → b ≡ false
-long_by true w v e = absurd (let z : ◌≡◌ {A = ℕ} 0 1 = cc in omega arith)
-long_by false w v e = refl
+  not_some : (b : Bool) (x : A) → cond b (Std.Some x) Std.None ≡ Std.None → b ≡ false
+  not_some true x h = absurd (let z : ◌≡◌ {A = ℕ} 0 1 = cc in omega arith)
+  not_some false x h = refl
 
-held_by : (b : Bool) (w v w' v' : Words) → cond b (Held w v) Long ≡ Held w' v' → (b ≡ true) × (w' ≡ w) × (v' ≡ v)
-held_by true w v w' v' e = (refl, cc, cc)
-held_by false w v w' v' e = absurd (let z : ◌≡◌ {A = ℕ} 0 1 = cc in omega arith)
-
-fits_by : (a b : Bool) (m : ℕ) → cond a (cond b Fits (Needs 8)) (Needs m) ≡ Fits → (a ≡ true) × (b ≡ true)
-fits_by true true m e = (refl, refl)
-fits_by true false m e = absurd (let z : ◌≡◌ {A = ℕ} 0 1 = cc in omega arith)
-fits_by false b m e = absurd (let z : ◌≡◌ {A = ℕ} 0 1 = cc in omega arith)
+  is-some : (b : Bool) (x y : A) → cond b (Std.Some x) Std.None ≡ Std.Some y → (b ≡ true) × (x ≡ y)
+  is-some true x y h = (refl, cc)
+  is-some false x y h = absurd (let z : ◌≡◌ {A = ℕ} 0 1 = cc in omega arith)
 
 -- ---- the tests of a shape
 
 module _ (s : State) (t : Lent) (k : Kind) (o : OfCode t.code k) (ok : state_fine s ≡ true) (f : Formula) (fe : f ≡ formula (form_by k) k.z k.m) (out start entry : ℕ) where
-  pub refused-tables : tables_judged k t.counts t.xs t.ys t.zs t.ms ≡ Disagree → Refused s t out start entry AddIs.Tables
-  refused-tables h = record { refused = refl; says = rw (agree-is t k o ∙ disagree_by _ _ h) }
+  pub refused-tables : (e : AddError) → tables_judged k t.counts t.xs t.ys t.zs t.ms ≡ Err e → Refused s t out start entry e
+  refused-tables e h =
+      let q = not_ok (agree_by k t.counts t.xs t.ys t.zs t.ms) (length t.xs) Tables e h in
+      subst (Refused s t out start entry) q.1 (record { says = rw (agree-is t k o ∙ q.0) })
 
-  module _ (n : ℕ) (h : tables_judged k t.counts t.xs t.ys t.zs t.ms ≡ Agree n) where
+  module _ (n : ℕ) (h : tables_judged k t.counts t.xs t.ys t.zs t.ms ≡ Ok n) where
     yes : agree_by k t.counts t.xs t.ys t.zs t.ms ≡ true
-    yes = (agree-by (agree_by k t.counts t.xs t.ys t.zs t.ms) (points_by k t.counts t.xs) n h).0
+    yes = (is-ok (agree_by k t.counts t.xs t.ys t.zs t.ms) (length t.xs) n Tables h).0
 
     points : points_by k t.counts t.xs ≡ n
-    points = (agree-by (agree_by k t.counts t.xs t.ys t.zs t.ms) (points_by k t.counts t.xs) n h).1
+    points = sym (tables k t.counts t.xs t.ys t.zs t.ms yes).xs_has ∙ (is-ok (agree_by k t.counts t.xs t.ys t.zs t.ms) (length t.xs) n Tables h).1
 
     agrees : lent_agree t ≡ true
     agrees = agree-is t k o ∙ yes
@@ -93,46 +89,47 @@ module _ (s : State) (t : Lent) (k : Kind) (o : OfCode t.code k) (ok : state_fin
     unfolding test
     held-is = rw (counts-lent, ← counts-held k t.box t.counts t.xs t.ys t.zs t.ms yes, points, words-is)
 
-    pub refused-long : length_judged s.words f (length t.counts) n ≡ Long → Refused s t out start entry AddIs.Long
+    pub refused-long : length_judged s.words f (length t.counts) n ≡ Std.None → Refused s t out start entry Long
     unfolding test
-    refused-long l = record { refused = refl; says = rw (agrees, held-is ∙ long_by test _ _ l) }
+    refused-long l = record { says = rw (agrees, held-is ∙ not_some test (formula-content, words_of (words_with s.words formula-content)) l) }
 
-    module _ (content after : Words) (l : length_judged s.words f (length t.counts) n ≡ Held content after) where
-      held-words : (test ≡ true) × (content ≡ formula-content) × (after ≡ words_of (words_with s.words formula-content))
+    module _ (w : Words × Words) (l : length_judged s.words f (length t.counts) n ≡ Std.Some w) where
+      held-words : (test ≡ true) × (◌≡◌ {A = Words × Words} (formula-content, words_of (words_with s.words formula-content)) w)
       unfolding test
-      held-words = held_by test formula-content (words_of (words_with s.words formula-content)) content after l
+      held-words = is-some test (formula-content, words_of (words_with s.words formula-content)) w l
 
       held : held_then s t ≡ true
       held = held-is ∙ held-words.0
 
-      content-is : content ≡ words_of (shape_words (lent_shape t))
-      content-is = held-words.1 ∙ ap words_of (sym shape-words)
+      content-is : w.0 ≡ words_of (shape_words (lent_shape t))
+      content-is = sym (ap (λ (v : Words × Words). v.0) held-words.1) ∙ ap words_of (sym shape-words)
 
-      module _ (size : Bytes) (ze : size ≡ record_bytes_of content) where
+      module _ (size : Bytes) (ze : size ≡ record_bytes_of w.0) where
         size_is : size ≡ bytes_of (record_size t)
-        size_is = ze ∙ record-bytes (shape_words (lent_shape t)) content content-is
-
-        pub size-whole : Whole size
-        size-whole = whole-bytes (record_size t) size size_is
+        size_is = ze ∙ record-bytes (shape_words (lent_shape t)) w.0 content-is
 
         bytes_are : nat_abs size.0 ≡ record_size t
         bytes_are = ap (λ (b : Bytes). nat_abs b.0) size_is
 
-        room_by : (a b : Bool) (bytes : ℕ) → leb (start + record_size t) out ≡ a → leb 8 entry ≡ b → cond a (cond b Fits (Needs 8)) (Needs (min (start + record_size t) (2 ^ 64 - 1))) ≡ Needs bytes → Refused s t out start entry (AddIs.Room bytes)
-        room_by true true bytes p q e = absurd (let z : ◌≡◌ {A = ℕ} 0 1 = cc in omega arith)
-        room_by true false bytes p q e =
-            let r : 8 ≡ bytes = cc in
-            record { refused = refl; says = rw (agrees, held, p, q) (ap room_bytes (sym r)) }
-        room_by false b bytes p q e =
-            let r : min (start + record_size t) (2 ^ 64 - 1) ≡ bytes = cc in
-            record { refused = refl; says = rw (agrees, held, p) (ap room_bytes (sym r)) }
+        abbrev needed : AddError
+        needed = Room (min (start + record_size t) (2 ^ 64 - 1))
 
-        pub refused-room : (bytes : ℕ) → room_judged (nat_abs size.0) out start entry ≡ Needs bytes → Refused s t out start entry (AddIs.Room bytes)
-        refused-room bytes e = room_by _ _ bytes refl refl (ap (λ (z : ℕ). room_judged z out start entry) (sym bytes_are) ∙ e)
+        room_by : (a b : Bool) (e : AddError) → leb (start + record_size t) out ≡ a → leb 8 entry ≡ b → cond a (cond b (Ok (tt {0})) (Err (Room 8))) (Err needed) ≡ Err e → Refused s t out start entry e
+        room_by true true e p q h = absurd (let z : ◌≡◌ {A = ℕ} 0 1 = cc in omega arith)
+        room_by true false e p q h = let r : Room 8 ≡ e = cc in subst (Refused s t out start entry) r (record { says = rw (agrees, held, p, q) })
+        room_by false b e p q h = let r : needed ≡ e = cc in subst (Refused s t out start entry) r (record { says = rw (agrees, held, p) })
 
-        pub passed : room_judged (nat_abs size.0) out start entry ≡ Fits → Passed s t out start entry k content after size
-        passed e =
-            let r = fits_by _ _ _ (ap (λ (z : ℕ). room_judged z out start entry) (sym bytes_are) ∙ e) in
+        pub refused-room : (e : AddError) → room_judged (nat_abs size.0) out start entry ≡ Err e → Refused s t out start entry e
+        refused-room e h = room_by _ _ e refl refl (ap (λ (z : ℕ). room_judged z out start entry) (sym bytes_are) ∙ h)
+
+        fits_by : (a b : Bool) (u : Unit {0}) → cond a (cond b (Ok (tt {0})) (Err (Room 8))) (Err needed) ≡ Ok u → (a ≡ true) × (b ≡ true)
+        fits_by true true u h = (refl, refl)
+        fits_by true false u h = absurd (let z : ◌≡◌ {A = ℕ} 0 1 = cc in omega arith)
+        fits_by false b u h = absurd (let z : ◌≡◌ {A = ℕ} 0 1 = cc in omega arith)
+
+        pub passed : (u : Unit {0}) → room_judged (nat_abs size.0) out start entry ≡ Ok u → Passed s t out start entry (record { kind = k; content = w.0; after = w.1; size = size })
+        passed u h =
+            let r = fits_by _ _ u (ap (λ (z : ℕ). room_judged z out start entry) (sym bytes_are) ∙ h) in
             let g = both_true _ _ held in
             record {
               of_code = o;
@@ -140,7 +137,7 @@ module _ (s : State) (t : Lent) (k : Kind) (o : OfCode t.code k) (ok : state_fin
               counts-held = sym counts-lent ∙ g.0;
               held = ltb-true _ _ g.1;
               words_are = content-is;
-              after_is = held-words.2 ∙ ap words_of (sym words-is);
+              after_is = sym (ap (λ (v : Words × Words). v.1) held-words.1) ∙ ap words_of (sym words-is);
               size_is = size_is;
               room = leb-true _ _ r.0;
               entry_room = leb-true _ _ r.1;
@@ -150,17 +147,16 @@ module _ (s : State) (t : Lent) (k : Kind) (o : OfCode t.code k) (ok : state_fin
 -- ---- all tests, by the kind's and the shape's
 
 module _ (s : State) (t : Lent) (out start entry : ℕ) where
-  pub refused-kind : (a : AddAnswer) → KindRefused s t.code a → AllRefused s t out start entry a
+  pub refused-kind : (e : AddError) → KindRefused s t.code e → AllRefused s t out start entry e
   unfolding adding_of
-  refused-kind a r = record { refused = r.refused; says = r.says (shape_tests s t out start entry) (gives (record_size t)) }
+  refused-kind e r = record { says = r.says (shape_tests s t out start entry) (gives (record_size t)) }
 
-  pub judged : (k : Kind) (f : Formula) → KindFine s t.code k f → (r : Judged) → JudgesShape s t out start entry r → Judges s t out start entry r
+  pub judged : (k : Kind) (f : Formula) → KindFine s t.code k f → (r : Result Judged AddError) → JudgesShape s t out start entry r → Judges s t out start entry r
   unfolding adding_of
-  judged k f h (JudgedIs.Fine k' w after size) j =
+  judged k f h (Ok j) p =
       record {
         fine = h.fine;
-        shape = j;
-        says = ap (λ (b : Bytes). gives (nat_abs b.0)) j.size_is ∙ sym (h.passes (shape_tests s t out start entry) (gives (record_size t)) ∙ j.passes);
+        shape = p;
+        says = ap (λ (b : Bytes). gives (nat_abs b.0)) p.size_is ∙ sym (h.passes (shape_tests s t out start entry) (gives (record_size t)) ∙ p.passes);
       }
-  judged k f h (JudgedIs.Refused a) j =
-      record { refused = j.refused; says = j.says ∙ sym (h.passes (shape_tests s t out start entry) (gives (record_size t))) }
+  judged k f h (Err e) p = record { says = p.says ∙ sym (h.passes (shape_tests s t out start entry) (gives (record_size t))) }

@@ -3,12 +3,11 @@ use mathlib.Core.Path.{◌≡◌, refl, sym, ap, ◌∙◌, subst}
 use mathlib.Core.Bool.{Bool, true, false, ◌&&◌, ◌||◌, not}
 use mathlib.Core.Option.{Option, none, some}
 use Prim.Native.Nat.{ℕ, ◌+◌, ◌*◌, ◌-◌, ◌^◌, ◌≤◌, ◌<◌}
-use native.Mathlib.Nat.{not-suc-le-zero}
 use native.Mathlib.Omega.{arith}
 use lib.Dec.{T, leb, eqb}
 use lib.IntN.{ℤ, pos, negsuc, nat_abs}
-use lib.Signed.{lt_z, mag}
-use borrow.Author.Tests.{ltb-true, leb-true, eqb-true}
+use lib.Signed.{mag}
+use borrow.Author.Tests.{leb-true, eqb-true}
 use Rattle.format.specs.declared.kinds.Kind.{Kind}
 use Rattle.format.specs.declared.lengths.Formula.{Formula}
 use Rattle.format.specs.Kinds.{known, kind_at}
@@ -18,25 +17,11 @@ use Rattle.format.proofs.KindLaws.{code_is, known-there}
 use Rattle.format.proofs.LengthLaws.{null_row, null-form}
 use Rattle.format.proofs.OrderLaws.{both_true}
 use Rattle.writer.specs.declared.State.{State}
-use Rattle.writer.specs.declared.states.Looked.{Looked}
-use Rattle.writer.specs.declared.states.Looked.TheVariants.{Taken}
+use Rattle.std.specs.Prelude.{Ok, Err}
+use Rattle.format.specs.declared.lengths.KindError.{KindError}
 use Rattle.writer.specs.Judging.{natural_of, by_kind, look_up, counts_fine}
 use Rattle.writer.specs.State.{fresh, at_least, is_zero, state_fine}
 use Rattle.writer.proofs.KindLaws.{is_taken, taken_is, looked_kind}
-
--- ---- a number, or 0 for one below
-
-pub natural_neg : (z : ℤ) → lt_z z (pos 0) ≡ true → 0 ≡ natural_of z
-natural_neg (pos n) e = absurd (not-suc-le-zero (ltb-true n 0 e))
-natural_neg (negsuc n) e = refl
-
-pub natural_non : (z : ℤ) → lt_z z (pos 0) ≡ false → nat_abs z ≡ natural_of z
-natural_non (pos n) e = refl
-natural_non (negsuc n) e = absurd (subst T e tt)
-
-pub natural_lt : (z : ℤ) → mag z < 2 ^ 31 → lt_z z (pos 0) ≡ false → nat_abs z < 2 ^ 31
-natural_lt (pos n) h e = h
-natural_lt (negsuc n) h e = absurd (subst T e tt)
 
 -- ---- the tests of a state, by its numbers
 
@@ -59,17 +44,17 @@ fine_by (pos w) (negsuc n) points z = regroup (leb 50 w) false _ _ _
 fine_by (negsuc w) n points z = refl
 
 module _ (s : State) where
-  pub fine-taken : (k : Kind) (f : Formula) → look_up s.kind ≡ Taken k f → counts_fine (natural_of s.words.0) (natural_of s.number) s.points (eqb k.code 0) ≡ state_fine s
+  pub fine-taken : (p : Kind × Formula) → look_up s.kind ≡ Ok p → counts_fine (natural_of s.words.0) (natural_of s.number) s.points (eqb p.0.code 0) ≡ state_fine s
   unfolding state_fine
-  fine-taken k f e =
+  fine-taken p e =
       let t : there (form_at s.kind) ≡ true = taken_is s.kind ∙ ap is_taken e in
-      let z : is_zero s.kind ≡ eqb k.code 0 = ap is_zero (code_is s.kind k (looked_kind s.kind k f e)) in
-      rw (t, z) (sym (fine_by s.words.0 s.number s.points (eqb k.code 0)))
+      let z : is_zero s.kind ≡ eqb p.0.code 0 = ap is_zero (code_is s.kind p.0 (looked_kind s.kind p e)) in
+      rw (t, z) (sym (fine_by s.words.0 s.number s.points (eqb p.0.code 0)))
 
-  pub fine_no : (r : Looked) → look_up s.kind ≡ r → is_taken r ≡ false → false ≡ state_fine s
+  pub fine_no : (x : KindError) → look_up s.kind ≡ Err x → false ≡ state_fine s
   unfolding state_fine
-  fine_no r e n =
-      let t : there (form_at s.kind) ≡ false = taken_is s.kind ∙ (ap is_taken e ∙ n) in
+  fine_no x e =
+      let t : there (form_at s.kind) ≡ false = taken_is s.kind ∙ ap is_taken e in
       rw t (sym (ends (at_least 50 s.words.0) (at_least 1 s.number) _ _ _))
 
 -- the fresh one is a writer state: 0 is a taken kind
@@ -87,9 +72,9 @@ kind_pos : (z : ℤ) → there (form_at z) ≡ true → z ≡ pos (nat_abs z)
 kind_pos (pos n) e = refl
 kind_pos (negsuc n) e = absurd (subst T (sym e) tt)
 
-some_kind : (o : Option Kind) → is_taken (by_kind o) ≡ true → there o ≡ true
-some_kind none e = e
-some_kind (some k) e = refl
+some_kind : (z : ℤ) (o : Option Kind) → is_taken (by_kind z o) ≡ true → there o ≡ true
+some_kind z none e = e
+some_kind z (some k) e = refl
 
 at_first : (z : Bool) (w n : ℕ) → not z || (eqb w 50 && eqb n 1) ≡ true → z ≡ true → n ≡ 1
 at_first true w n e h = eqb-true n 1 (both_true (eqb w 50) (eqb n 1) e).1
@@ -123,7 +108,7 @@ fine s e =
       number-least = n.1;
       room = leb-true _ _ p3.1;
       kind_is = k;
-      kind-known = sym (ap known k) ∙ (known-there s.kind ∙ some_kind (kind_at s.kind) (sym (taken_is s.kind) ∙ p2.1));
+      kind-known = sym (ap known k) ∙ (known-there s.kind ∙ some_kind s.kind (kind_at s.kind) (sym (taken_is s.kind) ∙ p2.1));
       kind-taken = p2.1;
       points-room = leb-true _ _ p4.1;
       at_start = at_first (is_zero s.kind) (nat_abs s.words.0) (nat_abs s.number) p5.1;

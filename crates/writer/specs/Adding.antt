@@ -1,10 +1,10 @@
 -- Adding a record: the order of refusals is 3, 4, 9, 5, 10, 7, 6; the record and the entry are the paper's.
-use Rattle.std.specs.Prelude.{◌≡◌, Bool, true, false, cond, ◌&&◌, ◌||◌, not, List, [], ◌∷◌, ◌++◌, ℕ, ◌+◌, ◌*◌, ◌-◌, ◌^◌, min, leb, ltb, eqb, Float, ℤ, pos, nat_abs, length}
+use Rattle.std.specs.Prelude.{◌≡◌, Bool, true, false, cond, ◌&&◌, ◌||◌, not, List, [], ◌∷◌, ◌++◌, ℕ, ◌+◌, ◌*◌, ◌-◌, ◌^◌, min, leb, ltb, eqb, Float, ℤ, pos, nat_abs, length, Result, Ok, Err}
 use Rattle.std.proofs.Math.Option.{Option, none, some}
 use Rattle.std.proofs.lemmas.List.Edits.{sets}
 use Rattle.format.specs.declared.kinds.Kind.{Kind}
 use Rattle.format.specs.Encoding.{record_bytes, entry_bytes, shape_words}
-use Rattle.format.specs.Kinds.{known, kind, kind_at, kind_or}
+use Rattle.format.specs.Kinds.{known, kind_at, kind_or}
 use Rattle.format.specs.Lengths.{Form, nothing, one_point, many_points, parts, form_at}
 use Rattle.format.specs.Order.{first}
 use Rattle.format.specs.Said.{Said, gives, wrong_size, unknown, not_taken, mismatch, tables, long, room_bytes, unless_refused}
@@ -15,8 +15,11 @@ use Rattle.boxes.specs.Boxes.{start_box, grown, flat, point_box}
 use Rattle.layouts.specs.Answers.{agree, counts_held}
 use Rattle.layouts.specs.Tables.{bits, points_of, multipoint_of, parts_of}
 use Rattle.writer.specs.declared.State.{State}
-use Rattle.writer.specs.declared.AddAnswer.{AddAnswer}
-use Rattle.writer.specs.declared.AddAnswer.TheVariants.{Added, Size, Unknown, NotTaken, Mismatch, Tables, Long, Room}
+use Rattle.format.specs.declared.lengths.KindError.{KindError}
+use Rattle.format.specs.declared.lengths.KindError.TheVariants as KindIs
+use Rattle.format.specs.declared.shapes.Tables.{Tables}
+use Rattle.writer.specs.declared.AddError.{AddError}
+use Rattle.writer.specs.declared.AddError.TheVariants as AddIs
 use Rattle.writer.specs.declared.Adding.{Adding}
 use Rattle.writer.specs.State.{is_zero, state_fine}
 
@@ -32,6 +35,10 @@ pub record Lent : Type 0 where
 
 abbrev pub lent : ℤ → BBoxZ → List ℕ → List Float → List Float → List Float → List Float → Lent
 lent code b counts xs ys zs ms = record { code = code; box = b; counts = counts; xs = xs; ys = ys; zs = zs; ms = ms }
+
+-- the same of tables that stand together
+abbrev pub lent_tables : ℤ → BBoxZ → Tables → Lent
+lent_tables code b t = lent code b t.counts.now t.xs.now t.ys.now t.zs.now t.ms.now
 
 -- the form, and the kind of the code; what is not in the table is refused before either is used
 abbrev pub form_or : Option Form → Form
@@ -174,15 +181,23 @@ adding_of s t out start entry = first (add_tests s t out start entry) (gives (re
 
 -- ---- the answer in document 01's terms, and all that a call leaves
 
-abbrev pub said_add : AddAnswer → Said ℕ
-said_add (Added n) = gives n
-said_add Size = wrong_size 0
-said_add (Unknown code) = unknown code
-said_add (NotTaken code) = not_taken code
-said_add (Mismatch wanted found) = mismatch wanted found
-said_add Tables = tables
-said_add Long = long
-said_add (Room n) = room_bytes n
+abbrev pub said_refusal : AddError → Said ℕ
+said_refusal AddIs.Size = wrong_size 0
+said_refusal (AddIs.Unknown code) = unknown code
+said_refusal (AddIs.NotTaken code) = not_taken code
+said_refusal (AddIs.Mismatch held found) = mismatch held found
+said_refusal AddIs.Tables = tables
+said_refusal AddIs.Long = long
+said_refusal (AddIs.Room n) = room_bytes n
+
+abbrev pub said_add : Result ℕ AddError → Said ℕ
+said_add (Ok n) = gives n
+said_add (Err e) = said_refusal e
+
+-- the refusal of a code that has no formulas
+abbrev pub kind_refused : KindError → AddError
+kind_refused (KindIs.Unknown code) = AddIs.Unknown code
+kind_refused (KindIs.NotTaken code) = AddIs.NotTaken code
 
 pub record Adds (s : State) (t : Lent) (out : List ℕ) (start : ℕ) (entry : List ℕ) (r : Adding) (out' entry' : List ℕ) : Type 0 where
   pub says : said_add r.answer ≡ adding_of s t (length out) start (length entry)
@@ -191,5 +206,5 @@ pub record Adds (s : State) (t : Lent) (out : List ℕ) (start : ℕ) (entry : L
   pub entry_is : entry' ≡ unless_refused (said_add r.answer) entry (sets entry 0 (entry_of s t))
 
 -- the answer and the state, where the state is lent and the answer alone comes back
-abbrev pub adding : AddAnswer → State → Adding
+abbrev pub adding : Result ℕ AddError → State → Adding
 adding answer s = record { answer = answer; state = s }

@@ -1,10 +1,9 @@
 -- What the parts of adding a record say to each other: the judges' answers, and the shape, its words and the next state by the kind that was found.
-use Rattle.std.specs.Prelude.{◌≡◌, Bool, true, false, cond, ◌&&◌, ◌||◌, not, List, ◌++◌, ℕ, ◌+◌, ◌*◌, ◌-◌, ◌^◌, ◌≤◌, ◌<◌, min, leb, ltb, eqb, Float, ℤ, pos, negsuc, nat_abs, ◌+ℤ◌, length}
+use Rattle.std.specs.Prelude.{◌≡◌, Bool, true, false, cond, ◌&&◌, ◌||◌, not, List, ◌++◌, ℕ, ◌+◌, ◌*◌, ◌-◌, ◌^◌, ◌≤◌, ◌<◌, min, leb, ltb, eqb, Float, ℤ, pos, negsuc, nat_abs, ◌+ℤ◌, length, Result, Ok, Err}
+use Rattle.std.specs.Prelude as Std
 use Rattle.std.proofs.Math.Option.{Option, none, some}
 use Rattle.format.specs.declared.kinds.Kind.{Kind}
 use Rattle.format.specs.declared.lengths.Formula.{Formula}
-use Rattle.format.specs.declared.lengths.Counted.{Counted}
-use Rattle.format.specs.declared.lengths.Counted.TheVariants as CountedIs
 use Rattle.format.specs.declared.units.Words.{Words}
 use Rattle.format.specs.declared.units.Bytes.{Bytes}
 use Rattle.format.specs.Kinds.{kind_at}
@@ -19,21 +18,12 @@ use Rattle.boxes.specs.Boxes.{grown, flat, point_box}
 use Rattle.layouts.specs.Answers.{counts_held}
 use Rattle.layouts.specs.Tables.{several_of, points_lent}
 use Rattle.writer.specs.declared.State.{State}
-use Rattle.writer.specs.declared.AddAnswer.{AddAnswer}
-use Rattle.writer.specs.declared.AddAnswer.TheVariants as AddIs
-use Rattle.writer.specs.declared.states.Looked.{Looked}
-use Rattle.writer.specs.declared.states.Looked.TheVariants as LookedIs
-use Rattle.writer.specs.declared.judge.KindJudged.{KindJudged}
-use Rattle.writer.specs.declared.judge.KindJudged.TheVariants as KindIs
-use Rattle.writer.specs.declared.judge.TablesJudged.{TablesJudged}
-use Rattle.writer.specs.declared.judge.TablesJudged.TheVariants.{Agree, Disagree}
-use Rattle.writer.specs.declared.judge.LengthJudged.{LengthJudged}
-use Rattle.writer.specs.declared.judge.LengthJudged.TheVariants.{Held, Long}
-use Rattle.writer.specs.declared.judge.RoomJudged.{RoomJudged}
-use Rattle.writer.specs.declared.judge.RoomJudged.TheVariants.{Fits, Needs}
+use Rattle.format.specs.declared.lengths.KindError.{KindError}
+use Rattle.format.specs.declared.lengths.KindError.TheVariants as KindIs
+use Rattle.writer.specs.declared.AddError.{AddError}
+use Rattle.writer.specs.declared.AddError.TheVariants as AddIs
 use Rattle.writer.specs.declared.judge.Judged.{Judged}
-use Rattle.writer.specs.declared.judge.Judged.TheVariants as JudgedIs
-use Rattle.writer.specs.Adding.{Lent, point_shape, lent_shape, words_then, record_size, held_box, kind_tests, shape_tests, adding_of, said_add}
+use Rattle.writer.specs.Adding.{Lent, point_shape, lent_shape, words_then, record_size, held_box, kind_tests, shape_tests, adding_of, said_refusal}
 use Rattle.writer.specs.State.{is_zero, state_fine}
 
 -- ---- numbers and kinds
@@ -57,24 +47,24 @@ Whole size = size.0 ≡ pos (nat_abs size.0)
 abbrev pub words_with : Words → Words → ℕ
 words_with words content = natural_of words.0 + (4 + natural_of content.0)
 
-abbrev pub words_after : Words → Words → Counted
-words_after words content = cond (ltb (words_with words content) (2 ^ 31)) (CountedIs.Is (words_of (words_with words content))) CountedIs.Long
+abbrev pub words_after : Words → Words → Std.Option Words
+words_after words content = cond (ltb (words_with words content) (2 ^ 31)) (Std.Some (words_of (words_with words content))) Std.None
 
 -- a record's bytes: the header's 8 and the content's
 abbrev pub record_bytes_of : Words → Bytes
 record_bytes_of content = record { 0 = pos 8 +ℤ (in_bytes content).0 }
 
 -- the kind with a code, and its formula with m
-abbrev pub by_form : Kind → Option Form → Looked
-by_form k none = LookedIs.NotTaken
-by_form k (some form) = LookedIs.Taken k (formula form k.z k.m)
+abbrev pub by_form : ℤ → Kind → Option Form → Result (Kind × Formula) KindError
+by_form code k none = Err (KindIs.NotTaken code)
+by_form code k (some form) = Ok (k, formula form k.z k.m)
 
-abbrev pub by_kind : Option Kind → Looked
-by_kind none = LookedIs.Unknown
-by_kind (some k) = by_form k (form_of k)
+abbrev pub by_kind : ℤ → Option Kind → Result (Kind × Formula) KindError
+by_kind code none = Err (KindIs.Unknown code)
+by_kind code (some k) = by_form code k (form_of k)
 
-unfoldable pub look_up : ℤ → Looked
-look_up code = by_kind (kind_at code)
+unfoldable pub look_up : ℤ → Result (Kind × Formula) KindError
+look_up code = by_kind code (kind_at code)
 
 -- what is asked of a state's numbers; `first` says that its kind is 0
 abbrev pub counts_fine : ℕ → ℕ → ℕ → Bool → Bool
@@ -93,10 +83,9 @@ single k = cond (eqb k.code 0) 0 1
 abbrev pub points_by : Kind → List ℕ → List Float → ℕ
 points_by k counts xs = cond (has_several k) (points_lent k.parts counts xs) (single k)
 
--- the same, for so many x; more than those, where the counts sum to more or are no such shape's
-abbrev pub points_within : Kind → List ℕ → ℕ → ℕ
-points_within k counts xs =
-    cond k.parts (min (sum counts) (xs + 1)) (cond (eqb (length counts) 0) (cond (is_multipoint k) xs (single k)) (xs + 1))
+-- whether a shape of the kind with these counts has n points
+abbrev pub has_points : Kind → List ℕ → ℕ → Bool
+has_points k counts n = cond k.parts (eqb (sum counts) n) (eqb (length counts) 0 && (is_multipoint k || eqb n (single k)))
 
 abbrev pub agree_by : Kind → List ℕ → List Float → List Float → List Float → List Float → Bool
 agree_by k counts xs ys zs ms =
@@ -116,16 +105,6 @@ words_by k counts xs = content_words (form_by k) k.z k.m (length counts) (points
 
 -- ---- the judges
 
-abbrev pub is_refused : AddAnswer → Bool
-is_refused (AddIs.Added n) = false
-is_refused AddIs.Size = true
-is_refused (AddIs.Unknown code) = true
-is_refused (AddIs.NotTaken code) = true
-is_refused (AddIs.Mismatch wanted found) = true
-is_refused AddIs.Tables = true
-is_refused AddIs.Long = true
-is_refused (AddIs.Room n) = true
-
 -- what a kind that passed is known by
 pub record OfCode (code : ℤ) (k : Kind) : Type 0 where
   pub kind_is : kind_at code ≡ some k
@@ -137,57 +116,55 @@ pub record KindFine (s : State) (code : ℤ) (k : Kind) (f : Formula) : Type 0 w
   pub of_code : OfCode code k
   pub formula_is : f ≡ formula (form_by k) k.z k.m
 
-pub record KindRefused (s : State) (code : ℤ) (a : AddAnswer) : Type 0 where
-  pub refused : is_refused a ≡ true
-  pub says : (more : List (Bool × Said ℕ)) (x : Said ℕ) → said_add a ≡ first (kind_tests s code ++ more) x
+pub record KindRefused (s : State) (code : ℤ) (e : AddError) : Type 0 where
+  pub says : (more : List (Bool × Said ℕ)) (x : Said ℕ) → said_refusal e ≡ first (kind_tests s code ++ more) x
 
-abbrev pub JudgesKind : State → ℤ → KindJudged → Type 0
-JudgesKind s code (KindIs.Fine k f) = KindFine s code k f
-JudgesKind s code (KindIs.Refused a) = KindRefused s code a
+abbrev pub JudgesKind : State → ℤ → Result (Kind × Formula) AddError → Type 0
+JudgesKind s code (Ok p) = KindFine s code p.0 p.1
+JudgesKind s code (Err e) = KindRefused s code e
 
-abbrev pub tables_judged : Kind → List ℕ → List Float → List Float → List Float → List Float → TablesJudged
-tables_judged k counts xs ys zs ms = cond (agree_by k counts xs ys zs ms) (Agree (points_by k counts xs)) Disagree
+abbrev pub tables_judged : Kind → List ℕ → List Float → List Float → List Float → List Float → Result ℕ AddError
+tables_judged k counts xs ys zs ms = cond (agree_by k counts xs ys zs ms) (Ok (length xs)) (Err AddIs.Tables)
 
-abbrev pub length_judged : Words → Formula → ℕ → ℕ → LengthJudged
+abbrev pub length_judged : Words → Formula → ℕ → ℕ → Std.Option (Words × Words)
 length_judged words f p n =
     let content = words_of (formula_words f p n) in
-    cond (ltb p (2 ^ 31) && ltb n (2 ^ 31) && ltb (words_with words content) (2 ^ 31)) (Held content (words_of (words_with words content))) Long
+    cond (ltb p (2 ^ 31) && ltb n (2 ^ 31) && ltb (words_with words content) (2 ^ 31)) (Std.Some (content, words_of (words_with words content))) Std.None
 
-abbrev pub room_judged : ℕ → ℕ → ℕ → ℕ → RoomJudged
-room_judged size out start entry = cond (leb (start + size) out) (cond (leb 8 entry) Fits (Needs 8)) (Needs (min (start + size) (2 ^ 64 - 1)))
+abbrev pub room_judged : ℕ → ℕ → ℕ → ℕ → Result (Unit {0}) AddError
+room_judged size out start entry =
+    cond (leb (start + size) out) (cond (leb 8 entry) (Ok tt) (Err (AddIs.Room 8))) (Err (AddIs.Room (min (start + size) (2 ^ 64 - 1))))
 
-pub record Passed (s : State) (t : Lent) (out start entry : ℕ) (k : Kind) (w after : Words) (size : Bytes) : Type 0 where
-  pub of_code : OfCode t.code k
-  pub agrees : agree_by k t.counts t.xs t.ys t.zs t.ms ≡ true
-  pub counts-held : counts_held k.parts t.counts t.xs ≡ true
+pub record Passed (s : State) (t : Lent) (out start entry : ℕ) (j : Judged) : Type 0 where
+  pub of_code : OfCode t.code j.kind
+  pub agrees : agree_by j.kind t.counts t.xs t.ys t.zs t.ms ≡ true
+  pub counts-held : counts_held j.kind.parts t.counts t.xs ≡ true
   pub held : words_then s t < 2 ^ 31
-  pub words_are : w ≡ words_of (shape_words (lent_shape t))
-  pub after_is : after ≡ words_of (words_then s t)
-  pub size_is : size ≡ bytes_of (record_size t)
+  pub words_are : j.content ≡ words_of (shape_words (lent_shape t))
+  pub after_is : j.after ≡ words_of (words_then s t)
+  pub size_is : j.size ≡ bytes_of (record_size t)
   pub room : start + record_size t ≤ out
   pub entry_room : 8 ≤ entry
   pub passes : first (shape_tests s t out start entry) (gives (record_size t)) ≡ gives (record_size t)
 
-pub record Refused (s : State) (t : Lent) (out start entry : ℕ) (a : AddAnswer) : Type 0 where
-  pub refused : is_refused a ≡ true
-  pub says : said_add a ≡ first (shape_tests s t out start entry) (gives (record_size t))
+pub record Refused (s : State) (t : Lent) (out start entry : ℕ) (e : AddError) : Type 0 where
+  pub says : said_refusal e ≡ first (shape_tests s t out start entry) (gives (record_size t))
 
-abbrev pub JudgesShape : State → Lent → ℕ → ℕ → ℕ → Judged → Type 0
-JudgesShape s t out start entry (JudgedIs.Fine k w after size) = Passed s t out start entry k w after size
-JudgesShape s t out start entry (JudgedIs.Refused a) = Refused s t out start entry a
+abbrev pub JudgesShape : State → Lent → ℕ → ℕ → ℕ → Result Judged AddError → Type 0
+JudgesShape s t out start entry (Ok j) = Passed s t out start entry j
+JudgesShape s t out start entry (Err e) = Refused s t out start entry e
 
-pub record AllPassed (s : State) (t : Lent) (out start entry : ℕ) (k : Kind) (w after : Words) (size : Bytes) : Type 0 where
+pub record AllPassed (s : State) (t : Lent) (out start entry : ℕ) (j : Judged) : Type 0 where
   pub fine : state_fine s ≡ true
-  pub shape : Passed s t out start entry k w after size
-  pub says : gives (nat_abs size.0) ≡ adding_of s t out start entry
+  pub shape : Passed s t out start entry j
+  pub says : gives (nat_abs j.size.0) ≡ adding_of s t out start entry
 
-pub record AllRefused (s : State) (t : Lent) (out start entry : ℕ) (a : AddAnswer) : Type 0 where
-  pub refused : is_refused a ≡ true
-  pub says : said_add a ≡ adding_of s t out start entry
+pub record AllRefused (s : State) (t : Lent) (out start entry : ℕ) (e : AddError) : Type 0 where
+  pub says : said_refusal e ≡ adding_of s t out start entry
 
-abbrev pub Judges : State → Lent → ℕ → ℕ → ℕ → Judged → Type 0
-Judges s t out start entry (JudgedIs.Fine k w after size) = AllPassed s t out start entry k w after size
-Judges s t out start entry (JudgedIs.Refused a) = AllRefused s t out start entry a
+abbrev pub Judges : State → Lent → ℕ → ℕ → ℕ → Result Judged AddError → Type 0
+Judges s t out start entry (Ok j) = AllPassed s t out start entry j
+Judges s t out start entry (Err e) = AllRefused s t out start entry e
 
 -- ---- the writing, and the next state
 

@@ -1,13 +1,17 @@
 // Writing a pair record by record: the state, adding a record, finishing.
 #![tactic(auto)]
 
-ghost use Rattle.writer.specs.Adding.{lent, Adds, adding};
+ghost use Rattle.std.specs.Prelude.{◌≡◌};
+ghost use Rattle.writer.specs.Adding.{lent_tables, Adds, adding, kind_refused};
 ghost use Rattle.writer.specs.Finishing.{Finishes};
 
+use format::kinds::UnknownKind;
+use format::lengths::KindError;
+use format::shapes::Tables;
 use format::units::Words;
 use header::Header;
 use header::bbox::BBoxZ;
-use judge::Judged;
+use judge::Space;
 
 mod judge;
 mod record;
@@ -24,74 +28,75 @@ pub struct State {
     pub bbox: BBoxZ,
 }
 
-// How many bytes the record took, or why it was refused.
-#[derive(Clone, Copy)]
-pub enum AddAnswer {
-    Added(usize),
+// Why a record is not added: no writer state, the kind's code, the kind beside the file's, the tables, a count that leaves i32, or the bytes that a buffer has to have.
+#[derive(Clone, Copy, Debug, PartialEq, Eq)]
+pub enum AddError {
     Size,
     Unknown(i32),
     NotTaken(i32),
-    Mismatch(i32, i32),
+    Mismatch { held: i32, found: i32 },
     Tables,
     Long,
     Room(usize),
 }
 
-// The answer, and the state after the call: a refusal returns the one that it was given.
+impl From<KindError> for AddError {
+    ghost from_gives = { λ e r. r ≡ kind_refused e };
+
+    fn from(e: KindError) -> AddError {
+        match e {
+            KindError::Unknown(code) => AddError::Unknown(code),
+            KindError::NotTaken(code) => AddError::NotTaken(code),
+        }
+    }
+}
+
+// How many bytes the record took, or why it was refused; and the state after the call: a refusal returns the one that it was given.
 #[derive(Clone, Copy)]
 pub struct Adding {
-    pub answer: AddAnswer,
+    pub answer: Result<usize, AddError>,
     pub state: State,
 }
 
-#[derive(Clone, Copy)]
-pub enum FinishAnswer {
-    Finished,
-    Size,
+// The value is no writer state.
+#[derive(Clone, Copy, Debug, PartialEq, Eq)]
+pub struct NoState;
+
+// A state's kind is in the table.
+impl From<UnknownKind> for NoState {
+    fn from(_e: UnknownKind) -> NoState {
+        NoState
+    }
 }
 
-// Both headers; zeros, where there was no writer state.
+// The headers of both files.
 #[derive(Clone, Copy)]
-pub struct Finishing {
-    pub answer: FinishAnswer,
+pub struct Headers {
     pub shp: [u8; 100],
     pub shx: [u8; 100],
 }
 
 // Both headers of the files that the state has come to; the state stays as it is.
-pub fn finish(s: State) -> Finishing
+pub fn finish(s: State) -> Result<Headers, NoState>
     ensures { Finishes s result }
 {
-    if states::state_fine(s) {
-        let held = s.bbox;
-        let bounds = boxes::settle(held);
-        let words = s.words;
-        let shp = header::header_bytes(Header {
-            file_length: words,
-            version: 1000,
-            shape_type: s.kind,
-            bbox: bounds,
-        });
-        let shx = header::header_bytes(Header {
-            file_length: states::index_words(s.number),
-            version: 1000,
-            shape_type: s.kind,
-            bbox: bounds,
-        });
-        let shp_bytes = shp.bytes;
-        let shx_bytes = shx.bytes;
-        Finishing {
-            answer: FinishAnswer::Finished,
-            shp: shp_bytes,
-            shx: shx_bytes,
-        }
-    } else {
-        Finishing {
-            answer: FinishAnswer::Size,
-            shp: [0u8; 100],
-            shx: [0u8; 100],
-        }
+    if !states::state_fine(s) {
+        return Err(NoState);
     }
+    let shp = Header {
+        file_length: s.words,
+        version: 1000,
+        shape_type: s.kind,
+        bbox: boxes::settle(s.bbox),
+    };
+    let shx = Header {
+        file_length: states::index_words(s.number),
+        ..shp
+    };
+    Ok(Headers {
+        shp: header::header_bytes(shp)?,
+        shx: header::header_bytes(shx)?,
+    })
 }
 
 // The record goes into the output from `start` on, and its index entry into the first 8 bytes of `entry`. All is judged before the first byte.
@@ -99,44 +104,40 @@ pub fn add_record(
     state: State,
     code: i32,
     bbox: BBoxZ,
-    counts: &[u32],
-    xs: &[f64],
-    ys: &[f64],
-    zs: &[f64],
-    ms: &[f64],
+    t: &Tables,
     out: &mut [u8],
     start: usize,
     entry: &mut [u8],
 ) -> Adding
-    ensures { Adds state (lent code bbox counts.now xs.now ys.now zs.now ms.now) out.old start entry.old result out.new entry.new }
+    ensures { Adds state (lent_tables code bbox t.now) out.old start entry.old result out.new entry.new }
 {
-    let room = out.len();
-    let entries = entry.len();
-    match judge::judge(state, code, counts, xs, ys, zs, ms, room, start, entries) {
-        Judged::Refused(answer) => Adding { answer, state },
-        Judged::Fine(k, w, after, size) => {
-            let n = state.number;
-            let words = state.words;
+    let space = Space {
+        out: out.len(),
+        start,
+        entry: entry.len(),
+    };
+    match judge::judge(state, code, t, space) {
+        Err(refusal) => Adding {
+            answer: Err(refusal),
+            state,
+        },
+        Ok(judged) => {
             let kind = record::next_kind(state, code);
-            let points = record::next_points(state, xs.len());
-            let bounds = record::next_box(state, code, k, bbox, xs, ys, zs, ms);
+            let points = record::next_points(state, t.xs.len());
+            let bounds = record::next_box(state, code, judged.kind, bbox, t);
             record::put_record(
                 &mut out[start..],
-                n,
-                w,
+                state.number,
+                judged.content,
                 code,
-                k,
+                judged.kind,
                 bbox,
-                counts,
-                xs,
-                ys,
-                zs,
-                ms,
+                t,
             );
-            record::put_entry(entry, words, w);
+            record::put_two(entry, state.words.0, judged.content);
             Adding {
-                answer: AddAnswer::Added(judge::in_memory(size)),
-                state: record::next_state(n, after, kind, points, bounds),
+                answer: Ok(judge::in_memory(judged.size)),
+                state: record::next_state(state.number, judged.after, kind, points, bounds),
             }
         }
     }
@@ -147,19 +148,14 @@ pub fn write_shape(
     state: &mut State,
     code: i32,
     bbox: BBoxZ,
-    counts: &[u32],
-    xs: &[f64],
-    ys: &[f64],
-    zs: &[f64],
-    ms: &[f64],
+    t: &Tables,
     out: &mut [u8],
     start: usize,
     entry: &mut [u8],
-) -> AddAnswer
-    ensures { Adds state.old (lent code bbox counts.now xs.now ys.now zs.now ms.now) out.old start entry.old (adding result state.new) out.new entry.new }
+) -> Result<usize, AddError>
+    ensures { Adds state.old (lent_tables code bbox t.now) out.old start entry.old (adding result state.new) out.new entry.new }
 {
-    let s = *state;
-    let r = add_record(s, code, bbox, counts, xs, ys, zs, ms, out, start, entry);
-    *state = r.state;
-    r.answer
+    let added = add_record(*state, code, bbox, t, out, start, entry);
+    *state = added.state;
+    added.answer
 }

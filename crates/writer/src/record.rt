@@ -11,61 +11,50 @@ ghost use Rattle.writer.specs.Judging.{natural_of, shape_by, words_of, words_by,
 use crate::State;
 use crate::states::natural;
 use format::kinds::Kind;
+use format::shapes::{Layout, Tables};
 use format::units::Words;
 use header::bbox::BBoxZ;
 
-// A record's header at the front.
-fn put_header(out: &mut [u8], number: i32, content: Words)
+// Two numbers at the front: a record's header is its number and its content, an index entry where the record starts and its content.
+pub(crate) fn put_two(out: &mut [u8], first: i32, content: Words)
     requires { 8 ≤ length out.old }
-    ensures { out.new ≡ sets out.old 0 (two_big (of_z w32 number) (of_z w32 content.0)) }
+    ensures { out.new ≡ sets out.old 0 (two_big (of_z w32 first) (of_z w32 content.0)) }
 {
-    fields::put_be_i32(out, 0, number);
-    fields::put_be_i32(out, 4, content.0);
-}
-
-// An index entry at the front: where the record starts, and its content.
-pub(crate) fn put_entry(out: &mut [u8], offset: Words, content: Words)
-    requires { 8 ≤ length out.old }
-    ensures { out.new ≡ sets out.old 0 (two_big (of_z w32 offset.0) (of_z w32 content.0)) }
-{
-    fields::put_be_i32(out, 0, offset.0);
+    fields::put_be_i32(out, 0, first);
     fields::put_be_i32(out, 4, content.0);
 }
 
 // A point's x, y, and z and m where there are any.
-fn put_point(out: &mut [u8], xs: &[f64], ys: &[f64], zs: &[f64], ms: &[f64])
-    requires { (length xs.now ≡ 1) × (length ys.now ≡ 1) × (16 + 8 * length zs.now + 8 * length ms.now ≤ length out.old) }
-    ensures { out.new ≡ sets out.old 0 (f64s_le xs.now ++ (f64s_le ys.now ++ (f64s_le zs.now ++ f64s_le ms.now))) }
+fn put_point(out: &mut [u8], t: &Tables)
+    requires { (length t.now.xs.now ≡ 1) × (length t.now.ys.now ≡ 1) × (16 + 8 * length t.now.zs.now + 8 * length t.now.ms.now ≤ length out.old) }
+    ensures { out.new ≡ sets out.old 0 (f64s_le t.now.xs.now ++ (f64s_le t.now.ys.now ++ (f64s_le t.now.zs.now ++ f64s_le t.now.ms.now))) }
 {
-    fields::write_doubles(out, 0, xs);
-    fields::write_doubles(out, 8, ys);
-    fields::write_doubles(out, 16, zs);
-    fields::write_doubles(out, 16 + 8 * zs.len(), ms);
+    fields::write_doubles(out, 0, t.xs);
+    fields::write_doubles(out, 8, t.ys);
+    fields::write_doubles(out, 16, t.zs);
+    fields::write_doubles(out, 16 + 8 * t.zs.len(), t.ms);
 }
 
 // What follows the kind's field, by the kind's flags.
-fn put_body(
-    out: &mut [u8],
-    k: Kind,
-    bbox: BBoxZ,
-    counts: &[u32],
-    xs: &[f64],
-    ys: &[f64],
-    zs: &[f64],
-    ms: &[f64],
-)
-    requires { Ready k counts.now xs.now ys.now zs.now ms.now (length out.old) }
-    ensures { out.new ≡ sets out.old 0 (shape_bytes (shape_by k bbox counts.now xs.now ys.now zs.now ms.now)) }
+fn put_body(out: &mut [u8], k: Kind, bbox: BBoxZ, t: &Tables)
+    requires { Ready k t.now.counts.now t.now.xs.now t.now.ys.now t.now.zs.now t.now.ms.now (length out.old) }
+    ensures { out.new ≡ sets out.old 0 (shape_bytes (shape_by k bbox t.now.counts.now t.now.xs.now t.now.ys.now t.now.zs.now t.now.ms.now)) }
 {
     if format::lengths::has_several(k) {
-        layouts::write_body(out, k.parts, k.z, k.m, bbox, counts, xs, ys, zs, ms);
+        let layout = Layout {
+            parts: k.parts,
+            z: k.z,
+            m: k.m,
+        };
+        // tables that were judged are not refused
+        let _ = layouts::write_body(out, layout, bbox, t);
         return;
     }
     // a Null's content is its kind alone
     if k.code == 0 {
         return;
     }
-    put_point(out, xs, ys, zs, ms);
+    put_point(out, t);
 }
 
 // The whole record at the front of the output.
@@ -76,32 +65,28 @@ pub(crate) fn put_record(
     code: i32,
     k: Kind,
     bbox: BBoxZ,
-    counts: &[u32],
-    xs: &[f64],
-    ys: &[f64],
-    zs: &[f64],
-    ms: &[f64],
+    t: &Tables,
 )
-    requires ready { Ready k counts.now xs.now ys.now zs.now ms.now (length out.old) }
-    requires xs_in_bounds { 8 + 2 * words_by k counts.now xs.now ≤ length out.old }
+    requires ready { Ready k t.now.counts.now t.now.xs.now t.now.ys.now t.now.zs.now t.now.ms.now (length out.old) }
+    requires xs_in_bounds { 8 + 2 * words_by k t.now.counts.now t.now.xs.now ≤ length out.old }
     requires code_value { code ≡ pos k.code }
-    requires content_value { content ≡ words_of (words_by k counts.now xs.now) }
-    ensures { out.new ≡ sets out.old 0 (record_bytes k (of_z w32 number) (shape_by k bbox counts.now xs.now ys.now zs.now ms.now)) }
+    requires content_value { content ≡ words_of (words_by k t.now.counts.now t.now.xs.now) }
+    ensures { out.new ≡ sets out.old 0 (record_bytes k (of_z w32 number) (shape_by k bbox t.now.counts.now t.now.xs.now t.now.ys.now t.now.zs.now t.now.ms.now)) }
 {
-    put_header(out, number, content);
+    put_two(out, number, content);
     fields::put_le_i32(out, 8, code);
-    put_body(&mut out[12..], k, bbox, counts, xs, ys, zs, ms);
+    put_body(&mut out[12..], k, bbox, t);
 }
 
 // The box that a record other than Null gives to the header.
-fn own_box(k: Kind, bbox: BBoxZ, xs: &[f64], ys: &[f64], zs: &[f64], ms: &[f64]) -> BBoxZ
-    ensures { result ≡ own_by k bbox xs.now ys.now zs.now ms.now }
+fn own_box(k: Kind, bbox: BBoxZ, t: &Tables) -> BBoxZ
+    ensures { result ≡ own_by k bbox t.now.xs.now t.now.ys.now t.now.zs.now t.now.ms.now }
 {
     let several = format::lengths::has_several(k);
     if several {
         return boxes::flat_box(k, bbox);
     }
-    boxes::flat_box(k, boxes::point_box(xs, ys, zs, ms))
+    boxes::flat_box(k, boxes::point_box(t))
 }
 
 // The box that it finds.
@@ -122,22 +107,13 @@ pub(crate) fn next_kind(state: State, code: i32) -> i32
 }
 
 // The header's box behind the record: Null leaves the one that it finds.
-pub(crate) fn next_box(
-    state: State,
-    code: i32,
-    k: Kind,
-    bbox: BBoxZ,
-    xs: &[f64],
-    ys: &[f64],
-    zs: &[f64],
-    ms: &[f64],
-) -> BBoxZ
-    ensures { result ≡ box_by state code k bbox xs.now ys.now zs.now ms.now }
+pub(crate) fn next_box(state: State, code: i32, k: Kind, bbox: BBoxZ, t: &Tables) -> BBoxZ
+    ensures { result ≡ box_by state code k bbox t.now.xs.now t.now.ys.now t.now.zs.now t.now.ms.now }
 {
     if code == 0 {
         return state.bbox;
     }
-    let own = own_box(k, bbox, xs, ys, zs, ms);
+    let own = own_box(k, bbox, t);
     boxes::grow(own, held_box(state))
 }
 

@@ -4,18 +4,10 @@ ghost use Rattle.writer.specs.Judging.{natural_of, look_up, counts_fine, words_o
 ghost use Rattle.writer.specs.State.{fresh, state_fine};
 
 use crate::State;
-use format::kinds::{Found, Kind};
-use format::lengths::{Content, Counted, Formula};
+use format::kinds::{Kind, find_kind};
+use format::lengths::{Formula, KindError, lengths_of};
 use format::units::Words;
 use header::bbox::BBoxZ;
-
-// The kind with a code, and the formula of its content with m, where it is taken.
-#[derive(Clone, Copy)]
-pub enum Looked {
-    Taken(Kind, Formula),
-    NotTaken,
-    Unknown,
-}
 
 impl State {
     // No record yet.
@@ -46,7 +38,7 @@ impl State {
 pub(crate) fn natural(z: i32) -> u64
     ensures { (result ≡ natural_of z) × (result < 2 ^ 31) }
 {
-    if z < 0 { 0 } else { z as u64 }
+    u64::try_from(z).unwrap_or(0)
 }
 
 // How many words a length is, or 0 for one below: but for the fields that are written, lengths are taken apart here alone.
@@ -56,22 +48,13 @@ fn count(words: Words) -> u64
     natural(words.0)
 }
 
-// The kind of a code in the two tables of the format.
-pub(crate) fn look_up(code: i32) -> Looked
+// The kind with a code, and the formula of its content with m, where it is taken.
+pub(crate) fn look_up(code: i32) -> Result<(Kind, Formula), KindError>
     ensures { result ≡ look_up code }
 {
-    let Found::Is(k) = format::kinds::find_kind(code) else {
-        return Looked::Unknown;
-    };
-    match format::lengths::lengths_of(code) {
-        Content::Taken(l) => {
-            let f = l.with;
-            Looked::Taken(k, f)
-        }
-        Content::NotTaken(_) => Looked::NotTaken,
-        // which a kind that was found is not
-        Content::Unknown(_) => Looked::Unknown,
-    }
+    let kind = find_kind(code)?;
+    let lengths = lengths_of(code)?;
+    Ok((kind, lengths.with))
 }
 
 // Words at least 50, number at least 1, words for that many records and that many points, and of kind 0 only the start.
@@ -89,37 +72,28 @@ fn counts_fine(words: Words, number: i32, points: u32, first: bool) -> bool
     if w < 50 + 6 * (n - 1) {
         return false;
     }
-    if w < points as u64 {
+    if w < u64::from(points) {
         return false;
     }
-    if first {
-        if w == 50 { n == 1 } else { false }
-    } else {
-        true
-    }
+    !first || (w == 50 && n == 1)
 }
 
 // Whether the value is a writer state.
 pub fn state_fine(s: State) -> bool
     ensures { result ≡ state_fine s }
 {
-    let words = s.words;
     match look_up(s.kind) {
-        Looked::Taken(k, _) => counts_fine(words, s.number, s.points, k.code == 0),
-        Looked::NotTaken => false,
-        Looked::Unknown => false,
+        Ok((kind, _)) => counts_fine(s.words, s.number, s.points, kind.code == 0),
+        Err(_) => false,
     }
 }
 
-// The file's words with a record, whose header takes 4; long, where an i32 does not hold them.
-pub(crate) fn words_after(words: Words, content: Words) -> Counted
+// The file's words with a record, whose header takes 4, where an i32 holds them.
+pub(crate) fn words_after(words: Words, content: Words) -> Option<Words>
     ensures { result ≡ words_after words content }
 {
     let after = count(words) + (4 + count(content));
-    if 0x7fff_ffff < after {
-        return Counted::Long;
-    }
-    Counted::Is(Words(after as i32))
+    Some(Words(i32::try_from(after).ok()?))
 }
 
 // The words of the .shx: 50, and 4 for each record before the next number.
