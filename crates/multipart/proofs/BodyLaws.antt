@@ -9,13 +9,17 @@ use lib.Ieee.{Float}
 use lib.IntN.{ℤ}
 use lib.ListN.{length}
 use borrow.Author.Tests.{leb-true}
+use Rattle.std.specs.Prelude.{Err}
 use Rattle.format.specs.Numbers.{le_i32, doubles_at}
 use Rattle.format.specs.Order.{first}
 use Rattle.format.specs.Said.{Said, gives, room}
 use Rattle.format.proofs.OrderLaws.{first-append, is_refusal, kept, both_true}
 use Rattle.multipart.specs.declared.Body.{Body}
-use Rattle.multipart.specs.declared.BodyAnswer.{BodyAnswer}
-use Rattle.multipart.specs.Answers.{said_body, ReadsBody}
+use Rattle.multipart.specs.declared.CountsError.{CountsError}
+use Rattle.multipart.specs.declared.CountsError.TheVariants as CountsErrorIs
+use Rattle.multipart.specs.declared.BodyError.{BodyError}
+use Rattle.multipart.specs.declared.BodyError.TheVariants as BodyErrorIs
+use Rattle.multipart.specs.Answers.{refusal, of_counts, said_body, ReadsBody}
 use Rattle.multipart.specs.Body.{parts_in, number_at, counts_in, points_in, pairs_at, z_at, m_at, raised, x_in, y_in, z_in, m_in, body_in, count_tests, rest_tests, has_room, room_tests, body_of}
 use Rattle.multipart.specs.Parts.{count_of, differences, starts_at}
 use Rattle.multipart.specs.Walks.{Passes, Refuses, differences_of, end_after, body_at, Ready}
@@ -168,15 +172,28 @@ module _ (parts z m : Bool) (s : List ℕ) (counts xs ys zs ms : ℕ) where
       pub whole-body : has_room z m p points counts xs ys zs ms ≡ true → gives (body_in parts z m s) ≡ body_of parts z m s counts xs ys zs ms
       whole-body e = sym (room_last ∙ rw e)
 
--- a refusal leaves the stores as they were
+-- an error of the counts says as one of the body what it says of them
+pub said-of_counts : (e : CountsError) → said_body (Err (of_counts e)) ≡ refusal e
+said-of_counts (CountsErrorIs.Short c) = refl
+said-of_counts (CountsErrorIs.Size at) = refl
+
+-- an error is a refusal
+error_refuses : (e : BodyError) → T (is_refusal (said_body (Err e)))
+error_refuses (BodyErrorIs.Short c) = tt
+error_refuses (BodyErrorIs.Size at) = tt
+error_refuses (BodyErrorIs.Room parts points) = tt
+
+-- and leaves the stores as they were
 module _ (parts z m : Bool) (s counts : List ℕ) (xs ys zs ms : List Float) where
-  pub unread : (r : BodyAnswer) → T (is_refusal (said_body r)) → said_body r ≡ body_of parts z m s (length counts) (length xs) (length ys) (length zs) (length ms) → ReadsBody parts z m s counts xs ys zs ms r counts xs ys zs ms
-  unread r t e =
+  pub unread : (e : BodyError) → said_body (Err e) ≡ body_of parts z m s (length counts) (length xs) (length ys) (length zs) (length ms) → ReadsBody parts z m s counts xs ys zs ms (Err e) counts xs ys zs ms
+  unread e says =
+      let t = error_refuses e in
+      let said = said_body (Err e) in
       record {
-        says = e;
-        counts_are = kept (said_body r) t counts _;
-        x_are = kept (said_body r) t xs _;
-        y_are = kept (said_body r) t ys _;
-        z_are = kept (said_body r) t zs _;
-        m_are = kept (said_body r) t ms _;
+        says = says;
+        counts_are = kept said t counts _;
+        x_are = kept said t xs _;
+        y_are = kept said t ys _;
+        z_are = kept said t zs _;
+        m_are = kept said t ms _;
       }

@@ -1,9 +1,8 @@
 -- Laws of the counts of a body, as the code's tests meet them: past test k, what is left of the tests has the answer.
-use mathlib.Core.Path.{◌≡◌, sym, ap, ap₂, ◌∙◌, subst}
+use mathlib.Core.Path.{◌≡◌, sym, ap, ◌∙◌, subst}
 use mathlib.Core.Bool.{Bool, true, false}
 use mathlib.Core.List.{List}
-use Prim.Native.Nat.{ℕ, suc, ◌+◌, ◌*◌, ◌/◌, ◌%◌, ◌≤◌, ◌<◌}
-use native.Mathlib.Nat.{zero-add, sub-zero}
+use Prim.Native.Nat.{ℕ, ◌+◌, ◌≤◌}
 use native.Mathlib.Omega.{arith}
 use lib.Dec.{T, lit<}
 use lib.IntN.{ℤ, pos, negsuc, nat_abs}
@@ -13,63 +12,86 @@ use mir.Syntax.{w32, w64}
 use mir.Val.{Fits, SFits, to_z, of_z}
 use mir.ValLaws.{to_z-of_z}
 use borrow.Author.Tests.{le-leb, leb-true}
+use Rattle.std.specs.Prelude.{Err}
+use Rattle.format.specs.declared.shapes.Short.{Short}
+use Rattle.fields.specs.Checked.{Reads}
 use Rattle.format.specs.Numbers.{le_i32}
-use Rattle.format.specs.Order.{first, fields_from}
-use Rattle.format.specs.Said.{Said, gives, refuses, short}
-use Rattle.format.proofs.OrderLaws.{rest, ok_at, no_at, on, stop, fields_whole, cut_place, cut_count, fields_cut, refusing, passed, given, first-append}
+use Rattle.format.specs.Order.{whole, first, fields_from}
+use Rattle.format.specs.Said.{Said, gives, short, wrong_size}
+use Rattle.format.proofs.OrderLaws.{rest, ok_at, fields_whole, refusing, passed, given, first-append}
 use Rattle.multipart.specs.declared.Body.{Body}
-use Rattle.multipart.specs.Answers.{Two, counts_of}
+use Rattle.multipart.specs.declared.Counts.{Counts}
+use Rattle.multipart.specs.declared.CountsError.{CountsError}
+use Rattle.multipart.specs.declared.CountsError.TheVariants as CountsErrorIs
+use Rattle.multipart.specs.Answers.{refusal, counts_of}
 use Rattle.multipart.specs.Body.{parts_in, number_at, count_tests}
-use Rattle.multipart.specs.Walks.{Refuses, Counted}
-use Rattle.multipart.proofs.TestLaws.{carry, first_carry}
-
-abbrev two : ℕ → ℕ → Two
-two p n = record { parts = p; points = n }
+use Rattle.multipart.specs.Walks.{Refuses, FieldsEnd, Counted}
+use Rattle.multipart.proofs.TestLaws.{carry, first_carry, fields_stop}
 
 module _ (parts : Bool) (s : List ℕ) where
-  abbrev found : Two
-  found = two (parts_in parts s) (nat_abs (le_i32 (number_at parts) s))
+  abbrev found : Counts
+  found = record { parts = parts_in parts s; points = nat_abs (le_i32 (number_at parts) s) }
 
-  abbrev counts : Said Two
+  abbrev counts : Said Counts
   counts = gives found
 
-  abbrev tests : List (Bool × Said Two)
-  tests = count_tests parts s
-
-  abbrev pub left : ℕ → Said Two
-  left k = rest k tests counts
+  -- what the tests from test k on say
+  abbrev left : ℕ → Said Counts
+  left k = rest k (count_tests parts s) counts
 
   -- the box: four doubles in front
   box-first : counts_of parts s ≡ first (fields_from 8 4 0 s short) (left 4)
   unfolding counts_of
-  box-first = first-append (fields_from 8 4 0 s short) (drop 4 tests) counts
+  box-first = first-append (fields_from 8 4 0 s short) (drop 4 (count_tests parts s)) counts
 
-  pub box_cut : length s < 32 → short (length s / 8 * 8) (length s % 8) ≡ counts_of parts s
-  box_cut h =
-      let e : cut_place 8 0 (length s) ≡ length s / 8 * 8 = rw (zero-add, sub-zero) in
-      let f : cut_count 8 0 (length s) ≡ length s % 8 = rw sub-zero in
-      ap₂ short (sym e) (sym f) ∙ sym (box-first ∙ fields_cut 8 (lit< tt) 4 0 s short (left 4) (omega arith) h)
+  pub box_cut : (e : Short) → FieldsEnd 8 4 0 (length s) (Err e) → short e.at e.present ≡ counts_of parts s
+  box_cut e h = sym (box-first ∙ fields_stop 8 (lit< tt) 4 0 s (left 4) e (omega arith) h)
 
-  pub box-whole : 32 ≤ length s → counts_of parts s ≡ left 4
-  box-whole h = box-first ∙ fields_whole 8 (lit< tt) 4 0 s short (left 4) h
+  module _ (box : 32 ≤ length s) where
+    box-whole : counts_of parts s ≡ left 4
+    box-whole = box-first ∙ fields_whole 8 (lit< tt) 4 0 s short (left 4) box
 
-  module _ (r : Said Two) where
-    -- a test passed, and the next stands
-    pub past : (k : ℕ) → r ≡ left k → ok_at k tests ≡ true → r ≡ left (suc k)
-    past k p e = on tests counts r k p e
+    pub first_cut : (e : Short) → Reads 4 32 s (le_i32 32 s) (Err e) → short e.at e.present ≡ counts_of parts s
+    first_cut e h = sym (box-whole ∙ rw (h.0, h.1))
 
-    -- a test failed, and its refusal is the answer
-    pub refused : (k : ℕ) → r ≡ left k → ok_at k tests ≡ false → no_at k tests counts ≡ r
-    refused k p e = stop tests counts r k p e
+    first-whole : whole 4 32 s ≡ true → counts_of parts s ≡ left 5
+    first-whole h = box-whole ∙ rw h
+
+-- behind the box and the first number
+
+module _ (s : List ℕ) (box : 32 ≤ length s) (first-there : whole 4 32 s ≡ true) where
+  -- a multipoint has no other
+  pub points_refused : non_neg (le_i32 32 s) ≡ false → wrong_size 32 ≡ counts_of false s
+  points_refused e = sym (first-whole false s box first-there ∙ rw e)
+
+  pub points_held : (n : ℕ) → le_i32 32 s ≡ pos n → gives (record { parts = 0; points = n }) ≡ counts_of false s
+  points_held n e = sym (first-whole false s box first-there ∙ rw e)
+
+  -- parts have a second
+  pub second_cut : (e : Short) → Reads 4 36 s (le_i32 36 s) (Err e) → short e.at e.present ≡ counts_of true s
+  second_cut e h = sym (first-whole true s box first-there ∙ rw (h.0, h.1))
+
+  module _ (second-there : whole 4 36 s ≡ true) where
+    second-whole : counts_of true s ≡ left true s 6
+    second-whole = first-whole true s box first-there ∙ rw second-there
+
+    pub parts_refused : non_neg (le_i32 32 s) ≡ false → wrong_size 32 ≡ counts_of true s
+    parts_refused e = sym (second-whole ∙ rw e)
+
+    pub number_refused : (p : ℕ) → le_i32 32 s ≡ pos p → non_neg (le_i32 36 s) ≡ false → wrong_size 36 ≡ counts_of true s
+    number_refused p e f = sym (second-whole ∙ rw (e, f))
+
+    pub both_held : (p n : ℕ) → le_i32 32 s ≡ pos p → le_i32 36 s ≡ pos n → gives (record { parts = p; points = n }) ≡ counts_of true s
+    both_held p n e f = sym (second-whole ∙ rw (e, f))
 
 -- ---- the same tests in front of a body
 
-refusals : (parts : Bool) (s : List ℕ) → T (refusing (count_tests {A = Two} parts s))
+refusals : (parts : Bool) (s : List ℕ) → T (refusing (count_tests {A = Counts} parts s))
 refusals true s = tt
 refusals false s = tt
 
 -- with all of them passed, the number of points is there and not negative
-number-there : (parts : Bool) (s : List ℕ) → ((k : ℕ) → ok_at k (count_tests {A = Two} parts s) ≡ true) → (number_at parts + 4 ≤ length s) × (non_neg (le_i32 (number_at parts) s) ≡ true)
+number-there : (parts : Bool) (s : List ℕ) → ((k : ℕ) → ok_at k (count_tests {A = Counts} parts s) ≡ true) → (number_at parts + 4 ≤ length s) × (non_neg (le_i32 (number_at parts) s) ≡ true)
 number-there true s ok = (leb-true 40 (length s) (ok 5), ok 7)
 number-there false s ok = (leb-true 36 (length s) (ok 4), ok 5)
 
@@ -79,16 +101,17 @@ before_body true s a = first_carry (λ t. a) (count_tests true s) (counts true s
 before_body false s a = first_carry (λ t. a) (count_tests false s) (counts false s)
 
 module _ (parts : Bool) (s : List ℕ) where
-  pub counts_stop : (n : ℕ) (vs : List ℤ) → refuses n vs ≡ counts_of parts s → Refuses (count_tests parts s) (refuses n vs)
-  counts_stop n vs e a = before_body parts s a ∙ ap (carry (λ t. a)) (sym e)
+  pub counts_stop : (e : CountsError) → refusal e ≡ counts_of parts s → Refuses (count_tests parts s) (refusal e)
+  counts_stop (CountsErrorIs.Short c) e a = before_body parts s a ∙ ap (carry (λ t. a)) (sym e)
+  counts_stop (CountsErrorIs.Size at) e a = before_body parts s a ∙ ap (carry (λ t. a)) (sym e)
 
-  pub counted : (p n : ℕ) → gives (two p n) ≡ counts_of parts s → Counted parts s p
+  pub counted : (c : Counts) → gives c ≡ counts_of parts s → Counted parts s c.parts
   unfolding counts_of
-  counted p n e =
-      let there = number-there parts s (passed (found parts s) (two p n) (count_tests parts s) (refusals parts s) (sym e)) in
+  counted c e =
+      let there = number-there parts s (passed (found parts s) c (count_tests parts s) (refusals parts s) (sym e)) in
       record {
         long = there.0;
-        parts_are = ap (λ (t : Two). t.parts) (sym (given (found parts s) (two p n) (count_tests parts s) (refusals parts s) (sym e)));
+        parts_are = ap (λ (t : Counts). t.parts) (sym (given (found parts s) c (count_tests parts s) (refusals parts s) (sym e)));
         number_held = there.1;
         passes = λ a. before_body parts s a ∙ ap (carry (λ t. a)) (sym e);
       }
@@ -119,6 +142,6 @@ module _ (parts : Bool) (s : List ℕ) (p n : ℕ) (h : number_at parts + 4 ≤ 
       ∙ (fields_whole 8 (lit< tt) 4 0 s short (first (drop 4 (count_tests parts s)) a) (omega (arith, number_from parts))
       ∙ numbers_pass parts s h front-held (ap non_neg number_is) a)
 
-  pub counts-said : counts_of parts s ≡ gives (two p n)
+  pub counts-said : counts_of parts s ≡ gives (record { parts = p; points = n })
   unfolding counts_of
   counts-said = counts_pass (counts parts s) ∙ rw (← parts_are, number_is)

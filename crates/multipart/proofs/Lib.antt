@@ -8,5 +8,5 @@ pub mod Placed
 pub mod RestLaws
 pub mod StartLaws
 mod StoreLaws
-mod TestLaws
-mod WalkLaws
+pub mod TestLaws
+pub mod WalkLaws

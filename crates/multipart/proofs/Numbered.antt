@@ -8,7 +8,8 @@ use Rattle.format.specs.Order.{fields_from}
 use Rattle.format.specs.Said.{Said, gives, short, Numbered}
 use Rattle.format.proofs.OrderLaws.{AllNumbered, first_numbered, append_numbered, fields_numbered}
 use Rattle.multipart.specs.declared.Body.{Body}
-use Rattle.multipart.specs.Answers.{Two, counts_of}
+use Rattle.multipart.specs.declared.Counts.{Counts}
+use Rattle.multipart.specs.Answers.{counts_of}
 use Rattle.multipart.specs.Body.{parts_in, points_in, pairs_at, z_at, m_at, body_in, count_tests, part_tests, measure_tests, pair_tests, rest_tests, room_tests, body_of}
 use Rattle.multipart.specs.Parts.{count_of}
 
@@ -18,7 +19,7 @@ all_counts A false s = omega arith
 
 pub counts_numbered : (parts : Bool) (s : List ℕ) → Numbered (counts_of parts s)
 unfolding counts_of
-counts_numbered parts s = first_numbered {A = Two} (count_tests parts s) (gives _) (all_counts Two parts s) tt
+counts_numbered parts s = first_numbered {A = Counts} (count_tests parts s) (gives _) (all_counts Counts parts s) tt
 
 parts_numbered : (start at : ℕ) (ds : List ℤ) (s : List ℕ) → AllNumbered (part_tests {A = Body} start at ds s)
 unfolding part_tests

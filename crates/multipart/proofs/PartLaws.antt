@@ -1,95 +1,49 @@
 -- Laws of part arithmetic: when a difference is a count, by the tests of the code, and the parts one after the other.
-use mathlib.Core.Path.{◌≡◌, refl, ap, ◌∙◌, subst}
+use mathlib.Core.Path.{◌≡◌, refl, sym, ap, ◌∙◌}
 use mathlib.Core.Bool.{Bool, true, false, cond}
 use mathlib.Core.List.{List, [], ◌∷◌}
 use Prim.Native.Nat.{ℕ, zero, suc, ◌+◌, ◌-◌, ◌^◌, ◌≤◌, ◌<◌}
 use native.Mathlib.Omega.{arith}
-use lib.Dec.{T, ltb}
+use lib.Dec.{ltb}
 use lib.IntN.{ℤ, pos, negsuc, nat_abs, ◌-ℤ◌}
-use lib.Signed.{lt_z, mag, non_neg}
-use mir.Syntax.{w32, w64}
-use mir.Val.{Fits, SFits, to_z, of_z}
-use mir.ValLaws.{to_z-of_z}
-use borrow.Author.Tests.{lt-ltb, le-ltb, ltb-true, ltb-false}
+use mir.Syntax.{w32}
+use mir.Val.{SFits}
+use borrow.Author.Tests.{lt-ltb, ltb-true}
+use Rattle.std.specs.Prelude.{Option, Some, None, unwrap_or, Result, Ok, Err}
+use Rattle.std.specs.Int.{FitsUnsignedBits}
+use Rattle.std.specs.Result.{OkIff, result_ok}
 use Rattle.format.specs.Numbers.{le_i32}
 use Rattle.format.specs.Said.{gives, wrong_size}
-use Rattle.format.proofs.SignLaws.{non_neg_no}
-use Rattle.format.proofs.UnitLaws.{wide}
-use Rattle.multipart.specs.Answers.{part_of}
+use Rattle.multipart.specs.Answers.{said_part, part_of}
 use Rattle.multipart.specs.Parts.{is_count, count_of, differences, starts_at}
 use Rattle.multipart.specs.Walks.{end_of}
 
--- ---- a difference of two i32 in an i64
+-- ---- what is said of a part, by whether an i32 holds the difference, and then a u32
 
-by_order : (a b : ℕ) (t : Bool) → mag (cond t (negsuc (b - suc a)) (pos (a - b))) ≤ a + b
-by_order a b true = omega arith
-by_order a b false = omega arith
+-- a difference that leaves i32 is no count
+leaves_none : (d : ℤ) → (SFits w32 d → ⊥) → is_count d ≡ false
+leaves_none (pos n) h = go (ltb n (2 ^ 31)) refl
+  where
+    go : (b : Bool) → ltb n (2 ^ 31) ≡ b → ltb n (2 ^ 31) ≡ false
+    go true e = absurd (h (record { sfits = ltb-true n (2 ^ 31) e }))
+    go false e = e
+leaves_none (negsuc n) h = refl
 
-difference_mag : (a b : ℤ) → mag (a -ℤ b) ≤ mag a + mag b + 2
-difference_mag (pos a) (pos zero) = omega arith
-difference_mag (pos a) (pos (suc b)) = omega (arith, by_order a (suc b) (ltb a (suc b)))
-difference_mag (pos a) (negsuc b) = omega arith
-difference_mag (negsuc a) (pos zero) = omega (arith, by_order 0 (suc a) (ltb 0 (suc a)))
-difference_mag (negsuc a) (pos (suc b)) = omega arith
-difference_mag (negsuc a) (negsuc b) = omega (arith, by_order (suc b) (suc a) (ltb (suc b) (suc a)))
+-- else it is one where it is not negative
+by_sign : {E : Type 0} (d : ℤ) → SFits w32 d → (r : Result ℕ E) → OkIff r (FitsUnsignedBits 32 d) (nat_abs d) → said_part (result_ok r) ≡ cond (is_count d) (gives (nat_abs d)) (wrong_size 0)
+by_sign (pos n) f (Ok x) h = rw (lt-ltb n (2 ^ 31) f.sfits, h.1)
+by_sign (pos n) f (Err e) h = absurd (h (omega (arith, f.sfits)))
+by_sign (negsuc n) f (Ok x) h = absurd h.0
+by_sign (negsuc n) f (Err e) h = refl
 
--- an i32 as the i64 that the code makes of it
-abbrev held : ℤ → ℤ
-held z = to_z w64 (of_z w64 (to_z w32 (of_z w32 z)))
-
--- and the difference as it comes out of the code's local
-abbrev pub coded : ℤ → ℤ → ℤ
-coded start end = to_z w64 (of_z w64 (held end -ℤ held start))
-
-module _ (start end : ℤ) (f : SFits w32 start) (g : SFits w32 end) where
-  pub casts_wide : SFits w64 (to_z w32 (of_z w32 start))
-  casts_wide = rw (to_z-of_z w32 start f) (wide start f)
-
-  held_both : held end -ℤ held start ≡ end -ℤ start
-  held_both = rw (to_z-of_z w32 start f, to_z-of_z w32 end g, to_z-of_z w64 start (wide start f), to_z-of_z w64 end (wide end g))
-
-  fits : SFits w64 (end -ℤ start)
-  fits = record { sfits = omega (arith, difference_mag end start, f.sfits, g.sfits) }
-
-  pub difference_fits : SFits w64 (held end -ℤ held start)
-  difference_fits = rw held_both fits
-
-  pub difference_is : coded start end ≡ end -ℤ start
-  difference_is = ap (λ (z : ℤ). to_z w64 (of_z w64 z)) held_both ∙ to_z-of_z w64 (end -ℤ start) fits
-
--- ---- when it is a count
-
-negative_none : (d : ℤ) → lt_z d (pos 0) ≡ true → is_count d ≡ false
-negative_none d e = rw (non_neg_no d e)
-
-large_none : (d : ℤ) → lt_z (pos 0x7fff_ffff) d ≡ true → is_count d ≡ false
-large_none (pos n) e = le-ltb n (2 ^ 31) (ltb-true 0x7fff_ffff n e)
-large_none (negsuc n) e = refl
-
--- what the cast to u32 asks, and that it is a count
-pub small_count : (d : ℤ) → lt_z d (pos 0) ≡ false → lt_z (pos 0x7fff_ffff) d ≡ false → (T (non_neg d) × Fits w32 (nat_abs d)) × (is_count d ≡ true)
-small_count (pos n) e h =
-    let k : n ≤ 0x7fff_ffff = ltb-false 0x7fff_ffff n h in
-    let l : n < 2 ^ 31 = omega arith in
-    ((tt, omega arith), lt-ltb n (2 ^ 31) l)
-small_count (negsuc n) e h = absurd (subst T e tt)
-
--- ---- what is said of a part, of which d is the code's difference
-
-module _ (start end d : ℤ) (is : d ≡ end -ℤ start) where
-  none : is_count (end -ℤ start) ≡ false → wrong_size 0 ≡ part_of start end
+module _ (start end : ℤ) where
+  pub part_past : (SFits w32 (end -ℤ start) → ⊥) → wrong_size 0 ≡ part_of start end
   unfolding part_of
-  none e = rw e
+  part_past h = rw (leaves_none (end -ℤ start) h)
 
-  pub negative_part : lt_z d (pos 0) ≡ true → wrong_size 0 ≡ part_of start end
-  negative_part e = none (negative_none (end -ℤ start) (rw is at e))
-
-  pub large_part : lt_z (pos 0x7fff_ffff) d ≡ true → wrong_size 0 ≡ part_of start end
-  large_part e = none (large_none (end -ℤ start) (rw is at e))
-
-  pub part_count : lt_z d (pos 0) ≡ false → lt_z (pos 0x7fff_ffff) d ≡ false → gives (nat_abs d) ≡ part_of start end
+  pub part_within : {E : Type 0} (d : ℤ) → d ≡ end -ℤ start → SFits w32 d → (r : Result ℕ E) → OkIff r (FitsUnsignedBits 32 d) (nat_abs d) → said_part (result_ok r) ≡ part_of start end
   unfolding part_of
-  part_count e h = rw (← is, (small_count d e h).1)
+  part_within d e f r h = by_sign d f r h ∙ ap (λ (z : ℤ). cond (is_count z) (gives (nat_abs z)) (wrong_size 0)) e
 
 -- and back: what the answer tells of the difference
 
@@ -109,6 +63,11 @@ module _ (start end : ℤ) where
   pub no_count : wrong_size 0 ≡ part_of start end → is_count (end -ℤ start) ≡ false
   unfolding part_of
   no_count e = refused_by (is_count (end -ℤ start)) (nat_abs (end -ℤ start)) e
+
+-- the count that is told, and none where the part is refused
+pub count_told : (start end : ℤ) (r : Option ℕ) → said_part r ≡ part_of start end → unwrap_or r 0 ≡ count_of (end -ℤ start)
+count_told start end (Some k) e = sym (is-count start end k e).1
+count_told start end None e = rw (no_count start end e)
 
 -- ---- the parts one after the other
 

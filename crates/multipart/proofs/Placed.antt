@@ -16,7 +16,8 @@ use Rattle.format.specs.Shapes.{sum}
 use Rattle.format.proofs.OrderLaws.{first-append}
 use Rattle.format.proofs.Placed.{Placed, elsewhere, size_placed, test_placed, field_placed, fields_placed, offset, offset_within}
 use Rattle.multipart.specs.declared.Body.{Body}
-use Rattle.multipart.specs.Answers.{Two, counts_of}
+use Rattle.multipart.specs.declared.Counts.{Counts}
+use Rattle.multipart.specs.Answers.{counts_of}
 use Rattle.multipart.specs.Body.{parts_in, number_at, differences_in, counts_in, points_in, pairs_at, z_at, m_at, body_width, body_in, count_tests, part_tests, measure_tests, pair_tests, rest_tests, has_room, room_tests, body_of}
 use Rattle.multipart.specs.Parts.{is_count, count_of, differences, starts_at}
 use Rattle.multipart.specs.Walks.{end_after}
@@ -145,7 +146,7 @@ body_placed parts z m s counts xs ys zs ms =
 
 -- ---- the offset of what is said, which a caller may move
 
-pub counts-offset : (parts : Bool) (s : List ℕ) (r : Said Two) → r ≡ counts_of parts s → offset r ≤ length s
+pub counts-offset : (parts : Bool) (s : List ℕ) (r : Said Counts) → r ≡ counts_of parts s → offset r ≤ length s
 counts-offset parts s r e = offset_within (body_width parts s) s r (rw e (counts_placed parts s))
 
 pub body-offset : (parts z m : Bool) (s : List ℕ) (counts xs ys zs ms : ℕ) (r : Said Body) → r ≡ body_of parts z m s counts xs ys zs ms → offset r ≤ length s

@@ -2,20 +2,23 @@
 use mathlib.Core.Path.{◌≡◌, ◌∙◌}
 use mathlib.Core.Bool.{Bool, true, false}
 use mathlib.Core.List.{List, ◌++◌}
-use Prim.Native.Nat.{ℕ, ◌+◌, ◌*◌, ◌-◌, ◌/◌, ◌≤◌, ◌<◌}
+use Prim.Native.Nat.{ℕ, ◌+◌, ◌*◌, ◌≤◌}
 use native.Mathlib.Omega.{arith}
 use lib.Dec.{lit<}
 use lib.IntN.{ℤ, nat_abs}
 use lib.ListN.{length}
+use Rattle.std.specs.Prelude.{Result, Ok, Err}
+use Rattle.format.specs.declared.shapes.Short.{Short}
 use Rattle.format.specs.Numbers.{le_i32}
 use Rattle.format.specs.Order.{first, fields_from}
 use Rattle.format.specs.Said.{Said, short}
-use Rattle.format.proofs.OrderLaws.{fields_whole, cut_place, cut_count, fields_cut, first-append}
+use Rattle.format.proofs.OrderLaws.{fields_whole, first-append}
 use Rattle.multipart.specs.declared.Body.{Body}
-use Rattle.multipart.specs.declared.judge.Walk.{Walk}
-use Rattle.multipart.specs.declared.judge.Walk.TheVariants.{On, Short, Size}
+use Rattle.multipart.specs.declared.CountsError.{CountsError}
+use Rattle.multipart.specs.declared.CountsError.TheVariants as CountsErrorIs
 use Rattle.multipart.specs.Body.{parts_in, number_at, differences_in, counts_in, points_in, pairs_at, z_at, m_at, part_tests, measure_tests, pair_tests, rest_tests}
-use Rattle.multipart.specs.Walks.{Passes, Refuses, PartsWalk, end_after, MeasureWalk, PairsWalk}
+use Rattle.multipart.specs.Walks.{Passes, Refuses, FieldsEnd, PartsWalk, end_after, MeasureWalk, PairsWalk}
+use Rattle.multipart.proofs.TestLaws.{fields_pass, fields_stop}
 
 -- ---- one list of tests after another
 
@@ -63,33 +66,30 @@ module _ (s : List ℕ) (p : ℕ) (h : 40 ≤ length s) (parts_are : p ≡ parts
   abbrev parts_tests : List (Bool × Said Body)
   parts_tests = part_tests 40 (pairs_at true s) (differences_in true s) s
 
-  pub starts_cut : (length s - 40) / 4 < p → PairsWalk true s (Short (cut_place 4 40 (length s)) (cut_count 4 40 (length s)))
-  starts_cut k =
-      sooner start_tests parts_tests _
-      (λ a. fields_cut 4 (lit< tt) (parts_in true s) 40 s short a h (omega arith))
+  pub starts_cut : (e : Short) → FieldsEnd 4 p 40 (length s) (Err e) → PairsWalk true s (Err (CountsErrorIs.Short e))
+  starts_cut e k = sooner start_tests parts_tests _ (λ a. fields_stop 4 (lit< tt) (parts_in true s) 40 s a e h (rw (← parts_are) k))
 
   -- all starts are there
-  module _ (k : p ≤ (length s - 40) / 4) where
+  module _ (end : ℕ) (k : FieldsEnd 4 p 40 (length s) (Ok end)) where
     starts_pass : Passes start_tests
-    starts_pass a = fields_whole 4 (lit< tt) (parts_in true s) 40 s short a (omega arith)
+    starts_pass a = fields_pass 4 (lit< tt) (parts_in true s) 40 s a end (rw (← parts_are) k)
 
-    found : (r : Walk) → PartsWalk (parts_in true s) (le_i32 36 s) s r → PairsWalk true s r
+    found : (r : Result ℕ CountsError) → PartsWalk (parts_in true s) (le_i32 36 s) s r → PairsWalk true s r
     unfolding pairs_at z_at points_in counts_in
-    found (On points) w = (both_pass start_tests parts_tests starts_pass w.0, (w.1.0, rw (← w.1.0) w.1.1))
-    found (Short at present) w = later start_tests parts_tests _ starts_pass w
-    found (Size at) w = later start_tests parts_tests _ starts_pass w
+    found (Ok points) w = (both_pass start_tests parts_tests starts_pass w.0, (w.1.0, rw (← w.1.0) w.1.1))
+    found (Err e) w = later start_tests parts_tests _ starts_pass w
 
-    pub parts_found : (n : ℤ) (r : Walk) → n ≡ le_i32 36 s → PartsWalk p n s r → PairsWalk true s r
+    pub parts_found : (n : ℤ) (r : Result ℕ CountsError) → n ≡ le_i32 36 s → PartsWalk p n s r → PairsWalk true s r
     parts_found n r f w = found r (rw (parts_are, f) at w)
 
 -- ---- the n pairs of a multipoint
 
 module _ (s : List ℕ) (n : ℕ) (points_are : n ≡ nat_abs (le_i32 32 s)) where
-  pub points_cut : 36 ≤ length s → (length s - 36) / 16 < n → PairsWalk false s (Short (cut_place 8 36 (length s)) (cut_count 8 36 (length s)))
+  pub points_cut : 36 ≤ length s → (e : Short) → FieldsEnd 8 (2 * n) 36 (length s) (Err e) → PairsWalk false s (Err (CountsErrorIs.Short e))
   unfolding pairs_at points_in
-  points_cut h k a = fields_cut 8 (lit< tt) (2 * points_in false s) 36 s short a h (omega arith)
+  points_cut h e k a = fields_stop 8 (lit< tt) (2 * points_in false s) 36 s a e h (rw (← points_are) k)
 
-  pub points_found : 36 + 16 * n ≤ length s → PairsWalk false s (On n)
+  pub points_found : 36 + 16 * n ≤ length s → PairsWalk false s (Ok n)
   unfolding z_at pairs_at points_in
   points_found h = ((λ a. fields_whole 8 (lit< tt) (2 * points_in false s) 36 s short a (omega arith)), (points_are, omega arith))
 
@@ -105,5 +105,5 @@ module _ (parts : Bool) (s : List ℕ) (points : ℕ) (points_are : points ≡ p
   m-place z end e = rw (e, points_are)
 
 -- the walk over z, and over m
-pub measure_found : (flag : Bool) (s : List ℕ) (r r' : Walk) (n n' at at' : ℕ) → n ≡ n' → at ≡ at' → r ≡ r' → MeasureWalk flag n at s r → MeasureWalk flag n' at' s r'
+pub measure_found : (flag : Bool) (s : List ℕ) (r r' : Result ℕ CountsError) (n n' at at' : ℕ) → n ≡ n' → at ≡ at' → r ≡ r' → MeasureWalk flag n at s r → MeasureWalk flag n' at' s r'
 measure_found flag s r r' n n' at at' e f g h = rw (e, f, g) at h

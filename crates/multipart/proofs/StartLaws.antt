@@ -9,6 +9,7 @@ use lib.Dec.{lit<}
 use lib.IntN.{ℤ, pos, ◌-ℤ◌, +ℤ-neg_ℤ_cancel}
 use lib.ListN.{length, length-append}
 use borrow.Author.Tests.{lt-ltb}
+use Rattle.std.specs.Prelude.{Ok}
 use Rattle.format.specs.Bytes.{le_bytes}
 use Rattle.format.specs.Encoding.{starts_from}
 use Rattle.format.specs.Numbers.{le_i32}
@@ -22,7 +23,6 @@ use Rattle.format.proofs.OrderLaws.{fields_whole, first-append}
 use Rattle.format.proofs.Places.{Stands, front, back}
 use Rattle.format.proofs.Runs.{run, i32_back}
 use Rattle.multipart.specs.declared.Body.{Body}
-use Rattle.multipart.specs.declared.judge.Walk.TheVariants.{On}
 use Rattle.multipart.specs.Body.{part_tests}
 use Rattle.multipart.specs.Parts.{is_count, count_of, starts_at}
 use Rattle.multipart.specs.Walks.{Passes, end_of, differences_of, PartsWalk}
@@ -103,7 +103,7 @@ module _ (parts : List (List Point)) (s : List ℕ) (small : length (flatten par
   pub counts_laid : map count_of differences_laid ≡ map length parts
   counts_laid = ap (map count_of) lengths_are ∙ counts_back parts small
 
-  pub parts_laid : 40 + 4 * length parts + 16 * length (flatten parts) ≤ length s → PartsWalk (length parts) (pos (length (flatten parts))) s (On (length (flatten parts)))
+  pub parts_laid : 40 + 4 * length parts + 16 * length (flatten parts) ≤ length s → PartsWalk (length parts) (pos (length (flatten parts))) s (Ok (length (flatten parts)))
   parts_laid h = (
     rw lengths_are (parts_pass 40 (40 + 4 * length parts) parts s small h),
     (sym (ap sum counts_laid ∙ sum-parts parts), h),

@@ -15,14 +15,17 @@ use Rattle.multipart.specs.Body.{no_data, raised}
 use Rattle.multipart.specs.Parts.{count_of}
 use Rattle.multipart.proofs.PartLaws.{differences_from, difference_at, one_more, no_more}
 
--- ---- the counts of `left` parts, whose starts stand from `start` on, into a store from place i on
+-- ---- the counts of the parts from part i on, into a store from place i on
 
-module _ (counts : List ℕ) (i left start : ℕ) (n : ℤ) (s : List ℕ) where
-  pub counts_turn : (k : ℕ) → 0 < left → k ≡ count_of (difference_at (left - 1) start n s) → sets (set counts i k) (i + 1) (map count_of (differences_from (left - 1) (start + 4) n s)) ≡ sets counts i (map count_of (differences_from left start n s))
-  counts_turn k h e = rw (add-one, one_more left start n s h, e)
+module _ (counts : List ℕ) (p i : ℕ) (n : ℤ) (s : List ℕ) where
+  pub counts_turn : (k : ℕ) → i < p → k ≡ count_of (difference_at (p - i - 1) (40 + 4 * i) n s) → sets (set counts i k) (i + 1) (map count_of (differences_from (p - (i + 1)) (40 + 4 * (i + 1)) n s)) ≡ sets counts i (map count_of (differences_from (p - i) (40 + 4 * i) n s))
+  counts_turn k h e =
+      let left : p - (i + 1) ≡ p - i - 1 = omega arith in
+      let start : 40 + 4 * (i + 1) ≡ 40 + 4 * i + 4 = omega arith in
+      rw (left, start, add-one, one_more (p - i) (40 + 4 * i) n s (omega arith), e)
 
-  pub counts_end : left ≤ 0 → sets counts i (map count_of (differences_from left start n s)) ≡ counts
-  counts_end h = rw (no_more left start n s h)
+  pub counts_end : p ≤ i → sets counts i (map count_of (differences_from (p - i) (40 + 4 * i) n s)) ≡ counts
+  counts_end h = rw (no_more (p - i) (40 + 4 * i) n s (omega arith))
 
 -- ---- the m values from place i on
 

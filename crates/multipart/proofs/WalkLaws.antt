@@ -2,23 +2,26 @@
 use mathlib.Core.Path.{◌≡◌, refl, sym, ap, ◌∙◌}
 use mathlib.Core.Bool.{Bool, true, false}
 use mathlib.Core.List.{List, ◌∷◌, ◌++◌, map}
-use Prim.Native.Nat.{ℕ, ◌+◌, ◌*◌, ◌-◌, ◌/◌, ◌≤◌, ◌<◌}
+use Prim.Native.Nat.{ℕ, ◌+◌, ◌*◌, ◌-◌, ◌≤◌, ◌<◌}
 use native.Mathlib.Nat.{add-zero, zero-add}
 use native.Mathlib.Omega.{arith}
 use lib.Dec.{lit<}
 use lib.IntN.{ℤ}
 use lib.ListN.{length}
+use Rattle.std.specs.Prelude.{Ok, Err}
+use Rattle.format.specs.declared.shapes.Short.{Short}
 use Rattle.format.specs.Numbers.{le_i32}
 use Rattle.format.specs.Order.{first, fields_from}
 use Rattle.format.specs.Said.{Said, gives, short, wrong_size}
 use Rattle.format.specs.Shapes.{sum}
-use Rattle.format.proofs.OrderLaws.{fields_whole, cut_place, cut_count, fields_cut, first-append}
+use Rattle.format.proofs.OrderLaws.{first-append}
 use Rattle.multipart.specs.declared.Body.{Body}
-use Rattle.multipart.specs.declared.judge.Walk.TheVariants.{On, Short, Size}
+use Rattle.multipart.specs.declared.CountsError.TheVariants as CountsErrorIs
 use Rattle.multipart.specs.Answers.{part_of}
 use Rattle.multipart.specs.Body.{part_tests}
 use Rattle.multipart.specs.Parts.{is_count, count_of, starts_at}
-use Rattle.multipart.specs.Walks.{Passes, Refuses, end_of, differences_of, PartsWalk, MeasureWalk}
+use Rattle.multipart.specs.Walks.{Passes, Refuses, FieldsEnd, end_of, differences_of, PartsWalk, MeasureWalk}
+use Rattle.multipart.proofs.TestLaws.{fields_pass, fields_stop}
 use Rattle.multipart.proofs.PartLaws.{is-count, no_count, differences_from, difference_at, one_more, no_more}
 
 -- what is said of the first of `left` parts
@@ -52,11 +55,11 @@ module _ (left start at : ℕ) (n : ℤ) (s : List ℕ) (h : 0 < left) where
         let c = is-count _ _ k e in
         ap (λ (ts : List (Bool × Said Body)). first ts a) tests_are ∙ rw (c.1, c.0) (first-append (fields_from 8 (2 * k) at s short) (later k) a)
 
-    part_cut : at ≤ length s → (length s - at) / 16 < k → Refuses tests (short (cut_place 8 at (length s)) (cut_count 8 at (length s)))
-    part_cut p q a = pairs_first a ∙ fields_cut 8 (lit< tt) (2 * k) at s short (first (later k) a) p (omega arith)
+    part_cut : at ≤ length s → (c : Short) → FieldsEnd 8 (2 * k) at (length s) (Err c) → Refuses tests (short c.at c.present)
+    part_cut p c q a = pairs_first a ∙ fields_stop 8 (lit< tt) (2 * k) at s (first (later k) a) c p q
 
-    part_on : at + 16 * k ≤ length s → (a : Said Body) → first tests a ≡ first (later k) a
-    part_on p a = pairs_first a ∙ fields_whole 8 (lit< tt) (2 * k) at s short (first (later k) a) (omega arith)
+    part_on : (end : ℕ) → FieldsEnd 8 (2 * k) at (length s) (Ok end) → (a : Said Body) → first tests a ≡ first (later k) a
+    part_on end p a = pairs_first a ∙ fields_pass 8 (lit< tt) (2 * k) at s (first (later k) a) end p
 
     part_more : sum (map count_of (differences_from left start n s)) ≡ k + sum (map count_of (differences_from (left - 1) (start + 4) n s))
     part_more = rw (one_more left start n s h, (is-count _ _ k e).1)
@@ -73,7 +76,6 @@ module _ (left start at : ℕ) (n : ℤ) (s : List ℕ) (h : left ≤ 0) where
 -- ---- the walk over p parts, of which `left` are left, with `points` points before them
 
 pub record Judging (p : ℕ) (n : ℤ) (s : List ℕ) (left start at points : ℕ) : Type 0 where
-  pub starts : start + 4 * left ≡ 40 + 4 * p
   pub pairs : at ≡ 40 + 4 * p + 16 * points
   pub inside : at ≤ length s
   pub tests_left : (a : Said Body) → first (part_tests 40 (40 + 4 * p) (differences_of p n s) s) a ≡ first (part_tests start at (differences_from left start n s) s) a
@@ -81,27 +83,26 @@ pub record Judging (p : ℕ) (n : ℤ) (s : List ℕ) (left start at points : �
 
 module _ (p : ℕ) (n : ℤ) (s : List ℕ) where
   pub judging_first : 40 + 4 * p ≤ length s → Judging p n s p 40 (40 + 4 * p) 0
-  judging_first h = record { starts = refl; pairs = omega arith; inside = h; tests_left = λ a. refl; points-left = zero-add _ }
+  judging_first h = record { pairs = omega arith; inside = h; tests_left = λ a. refl; points-left = zero-add _ }
 
   module _ (left start at points : ℕ) (j : Judging p n s left start at points) where
-    pub judging_refused : 0 < left → wrong_size 0 ≡ said_at left start n s → PartsWalk p n s (Size start)
+    pub judging_refused : 0 < left → wrong_size 0 ≡ said_at left start n s → PartsWalk p n s (Err (CountsErrorIs.Size start))
     judging_refused h e a = j.tests_left a ∙ part_refused left start at n s h e a
 
-    pub judging_cut : 0 < left → (k : ℕ) → gives k ≡ said_at left start n s → (length s - at) / 16 < k → PartsWalk p n s (Short (cut_place 8 at (length s)) (cut_count 8 at (length s)))
-    judging_cut h k e q a = j.tests_left a ∙ part_cut left start at n s h k e j.inside q a
+    pub judging_cut : 0 < left → (k : ℕ) → gives k ≡ said_at left start n s → (c : Short) → FieldsEnd 8 (2 * k) at (length s) (Err c) → PartsWalk p n s (Err (CountsErrorIs.Short c))
+    judging_cut h k e c q a = j.tests_left a ∙ part_cut left start at n s h k e j.inside c q a
 
-    pub judging_on : 0 < left → (k : ℕ) → gives k ≡ said_at left start n s → k ≤ (length s - at) / 16 → Judging p n s (left - 1) (start + 4) (at + 16 * k) (points + k)
-    judging_on h k e q =
-        let i : at + 16 * k ≤ length s = omega (arith, j.inside) in
+    pub judging_on : 0 < left → (k : ℕ) → gives k ≡ said_at left start n s → (end : ℕ) → FieldsEnd 8 (2 * k) at (length s) (Ok end) → Judging p n s (left - 1) (start + 4) end (points + k)
+    judging_on h k e end q =
+        let i : end ≡ at + 16 * k = omega arith in
         record {
-          starts = omega (arith, j.starts);
           pairs = omega (arith, j.pairs);
-          inside = i;
-          tests_left = λ a. j.tests_left a ∙ part_on left start at n s h k e i a;
+          inside = q.1;
+          tests_left = λ a. rw i (j.tests_left a ∙ part_on left start at n s h k e end q a);
           points-left = omega (arith, j.points-left, part_more left start at n s h k e);
         }
 
-    pub judging_last : left ≤ 0 → PartsWalk p n s (On points)
+    pub judging_last : left ≤ 0 → PartsWalk p n s (Ok points)
     judging_last h = (
       (λ a. j.tests_left a ∙ parts_end left start at n s h a),
       (sym (parts-sum left start at n s h points) ∙ j.points-left, omega (arith, j.pairs, j.inside)),
@@ -109,12 +110,12 @@ module _ (p : ℕ) (n : ℤ) (s : List ℕ) where
 
 -- ---- a range and n values
 
-module _ (flag : Bool) (n at : ℕ) (s : List ℕ) (h : at ≤ length s) where
-  pub measure_cut : flag ≡ true → (length s - at) / 8 < 2 + n → MeasureWalk flag n at s (Short (cut_place 8 at (length s)) (cut_count 8 at (length s)))
-  measure_cut e k a = rw e (fields_cut 8 (lit< tt) (2 + n) at s short a h (omega arith))
+module _ (n at : ℕ) (s : List ℕ) where
+  pub measure_cut : at ≤ length s → (c : Short) → FieldsEnd 8 (2 + n) at (length s) (Err c) → MeasureWalk true n at s (Err (CountsErrorIs.Short c))
+  measure_cut h c q a = fields_stop 8 (lit< tt) (2 + n) at s a c h q
 
-  pub measure_whole : flag ≡ true → 2 + n ≤ (length s - at) / 8 → MeasureWalk flag n at s (On (at + 16 + 8 * n))
-  measure_whole e k = rw e ((λ a. fields_whole 8 (lit< tt) (2 + n) at s short a (omega arith)), (omega arith, omega arith))
+  pub measure_whole : (end : ℕ) → FieldsEnd 8 (2 + n) at (length s) (Ok end) → MeasureWalk true n at s (Ok end)
+  measure_whole end q = ((λ a. fields_pass 8 (lit< tt) (2 + n) at s a end q), (omega arith, q.1))
 
-  pub measure_none : flag ≡ false → MeasureWalk flag n at s (On at)
-  measure_none e = rw e ((λ a. refl), (sym (add-zero at), h))
+  pub measure_none : at ≤ length s → MeasureWalk false n at s (Ok at)
+  measure_none h = ((λ a. refl), (sym (add-zero at), h))

@@ -1,14 +1,16 @@
 -- What the internal functions find and store, for their contracts: a walk over tests says what they come to, whatever follows them.
-use Rattle.std.specs.Prelude.{◌≡◌, Bool, true, cond, List, [], ◌∷◌, map, ℕ, ◌+◌, ◌*◌, ◌≤◌, Float, ℤ, length}
+use Rattle.std.specs.Prelude.{◌≡◌, Bool, true, false, cond, List, [], ◌∷◌, map, ℕ, ◌+◌, ◌*◌, ◌-◌, ◌/◌, ◌%◌, ◌≤◌, ◌<◌, Float, ℤ, pos, length, Result, Ok, Err}
 use Rattle.std.proofs.lemmas.List.Edits.{sets}
 use Rattle.std.specs.Int.Signed.{non_neg}
 use Rattle.format.specs.Numbers.{le_i32, le_f64}
 use Rattle.format.specs.Order.{first}
-use Rattle.format.specs.Said.{Said, short, wrong_size}
+use Rattle.format.specs.Said.{Said}
 use Rattle.format.specs.Shapes.{sum}
+use Rattle.format.specs.declared.shapes.Short.{Short}
 use Rattle.multipart.specs.declared.Body.{Body}
-use Rattle.multipart.specs.declared.judge.Walk.{Walk}
-use Rattle.multipart.specs.declared.judge.Walk.TheVariants.{On, Short, Size}
+use Rattle.multipart.specs.declared.CountsError.{CountsError}
+use Rattle.multipart.specs.declared.CountsError.TheVariants as CountsErrorIs
+use Rattle.multipart.specs.Answers.{refusal}
 use Rattle.multipart.specs.Parts.{count_of, differences, starts_at}
 use Rattle.multipart.specs.Body.{parts_in, number_at, counts_in, points_in, z_at, m_at, range_at, no_range, x_in, y_in, z_in, m_in, body_in, count_tests, part_tests, measure_tests, pair_tests, rest_tests, has_room}
 
@@ -23,10 +25,21 @@ abbrev pub Refuses : List (Bool × Said Body) → Said Body → Type 0
 Refuses ts r = (a : Said Body) → first ts a ≡ r
 
 -- what a walk over them finds; P is what is known of its number where all pass
-abbrev pub Finds : List (Bool × Said Body) → (ℕ → Type 0) → Walk → Type 0
-Finds ts P (On n) = Passes ts × P n
-Finds ts P (Short at present) = Refuses ts (short at present)
-Finds ts P (Size at) = Refuses ts (wrong_size at)
+abbrev pub Finds : List (Bool × Said Body) → (ℕ → Type 0) → Result ℕ CountsError → Type 0
+Finds ts P (Ok n) = Passes ts × P n
+Finds ts P (Err e) = Refuses ts (refusal e)
+
+-- ---- fields
+
+-- where n fields of a width end, from a place on, if so many bytes are there; or which of them is cut, and how many of its bytes are there
+abbrev pub FieldsEnd : ℕ → ℕ → ℕ → ℕ → Result ℕ Short → Type 0
+FieldsEnd width n at size (Ok end) = (end ≡ at + width * n) × (end ≤ size)
+FieldsEnd width n at size (Err e) = (size < at + width * n) × (e ≡ record { at = at + (size - at) / width * width; present = (size - at) % width })
+
+-- a number that is not negative; else its place
+abbrev pub NotNegative : ℤ → ℕ → Result ℕ CountsError → Type 0
+NotNegative n at (Ok count) = n ≡ pos count
+NotNegative n at (Err e) = (non_neg n ≡ false) × (e ≡ CountsErrorIs.Size at)
 
 -- ---- the parts
 
@@ -40,7 +53,7 @@ abbrev pub differences_of : ℕ → ℤ → List ℕ → List ℤ
 differences_of p n s = differences (starts_at p 40 s) n
 
 -- the walk over them finds how many points they have, and all pairs of these are there
-abbrev pub PartsWalk : ℕ → ℤ → List ℕ → Walk → Type 0
+abbrev pub PartsWalk : ℕ → ℤ → List ℕ → Result ℕ CountsError → Type 0
 PartsWalk p n s =
     Finds (part_tests 40 (40 + 4 * p) (differences_of p n s) s)
     (λ points. (points ≡ sum (map count_of (differences_of p n s))) × (40 + 4 * p + 16 * points ≤ length s))
@@ -52,7 +65,7 @@ abbrev pub end_after : Bool → ℕ → ℕ → ℕ
 end_after flag n at = at + cond flag (16 + 8 * n) 0
 
 -- the walk over them finds that place
-abbrev pub MeasureWalk : Bool → ℕ → ℕ → List ℕ → Walk → Type 0
+abbrev pub MeasureWalk : Bool → ℕ → ℕ → List ℕ → Result ℕ CountsError → Type 0
 MeasureWalk flag n at s = Finds (measure_tests flag n at s) (λ end. (end ≡ end_after flag n at) × (end ≤ length s))
 
 -- ---- the body
@@ -65,11 +78,11 @@ pub record Counted (parts : Bool) (s : List ℕ) (p : ℕ) : Type 0 where
   pub passes : Passes (count_tests parts s)
 
 -- the walk over the pairs finds how many points are read, and all pairs of these are there
-abbrev pub PairsWalk : Bool → List ℕ → Walk → Type 0
+abbrev pub PairsWalk : Bool → List ℕ → Result ℕ CountsError → Type 0
 PairsWalk parts s = Finds (pair_tests parts s) (λ points. (points ≡ points_in parts s) × (z_at parts s ≤ length s))
 
 -- and so does the walk over all that follows the counts
-abbrev pub RestWalk : Bool → Bool → Bool → List ℕ → Walk → Type 0
+abbrev pub RestWalk : Bool → Bool → Bool → List ℕ → Result ℕ CountsError → Type 0
 RestWalk parts z m s =
     Finds (rest_tests parts z m s) (λ points. (points ≡ points_in parts s) × (end_after m (points_in parts s) (m_at parts z s) ≤ length s))
 

@@ -4,17 +4,31 @@ ghost use Rattle.format.specs.Numbers.{le_i32};
 ghost use Rattle.multipart.specs.Answers.{said_part, part_of};
 ghost use Rattle.multipart.specs.Body.{number_at};
 ghost use Rattle.multipart.specs.Parts.{starts_at};
-ghost use Rattle.multipart.specs.Walks.{end_of, end_after, Counted, PartsWalk, MeasureWalk, PairsWalk, RestWalk};
+ghost use Rattle.multipart.specs.Walks.{FieldsEnd, NotNegative, end_of, end_after, Counted, PartsWalk, MeasureWalk, PairsWalk, RestWalk};
 
-use crate::{PartAnswer, part_count};
+use crate::{CountsError, part_count};
+use format::shapes::{Layout, Short};
 
-// What a walk over fields finds: a number, where all is well; or the place of the field that is cut, with how many of its bytes are present,
-// or of the one that is wrong.
-#[derive(Clone, Copy)]
-pub enum Walk {
-    On(usize),
-    Short(usize, usize),
-    Size(usize),
+// Where n fields of a width end, from a place on; or the one of them that the bytes end inside.
+pub(crate) fn fields_end(s: &[u8], at: usize, width: usize, n: usize) -> Result<usize, Short>
+    requires { (at ≤ length s.now) × (0 < width) }
+    ensures { FieldsEnd width n at (length s.now) result }
+{
+    let rest = s.len() - at;
+    if rest / width < n {
+        return Err(Short {
+            at: at + rest / width * width,
+            present: rest % width,
+        });
+    }
+    Ok(at + width * n)
+}
+
+// A count, which stands at a place.
+pub(crate) fn not_negative(n: i32, at: usize) -> Result<u32, CountsError>
+    ensures { NotNegative n at result }
+{
+    u32::try_from(n).map_err(|_| CountsError::Size(at))
 }
 
 // Where the number of points stands: behind that of the parts, if there are any.
@@ -33,7 +47,7 @@ pub(crate) fn pairs_at(parts: bool, p: usize) -> usize
 }
 
 // The points of the part whose start stands at a place: so many starts follow it, and the last part ends at n.
-pub(crate) fn part_at(s: &[u8], start: usize, follow: usize, n: i32) -> PartAnswer
+pub(crate) fn part_at(s: &[u8], start: usize, follow: usize, n: i32) -> Option<u32>
     requires { start + 4 + 4 * follow ≤ length s.now }
     ensures { said_part result ≡ part_of (le_i32 start s.now) (end_of (starts_at follow (start + 4) s.now) n) }
 {
@@ -47,31 +61,22 @@ pub(crate) fn part_at(s: &[u8], start: usize, follow: usize, n: i32) -> PartAnsw
 }
 
 // The p parts in turn, whose starts stand from 40 on: how many points they have. The pairs of a part stand where those of the part before it end.
-fn judge_parts(s: &[u8], p: usize, n: i32) -> Walk
+fn judge_parts(s: &[u8], p: usize, n: i32) -> Result<usize, CountsError>
     requires { 40 + 4 * p ≤ length s.now }
     ensures { PartsWalk p n s.now result }
 {
-    let mut left = p;
-    let mut start: usize = 40;
     let mut at = 40 + 4 * p;
-    let mut points: usize = 0;
-    while 0 < left {
-        left -= 1;
-        match part_at(s, start, left, n) {
-            PartAnswer::Size => return Walk::Size(start),
-            PartAnswer::Count(k) => {
-                let count = k as usize;
-                let rest = s.len() - at;
-                if rest / 16 < count {
-                    return Walk::Short(at + rest / 8 * 8, rest % 8);
-                }
-                at += 16 * count;
-                points += count;
-            }
-        }
-        start += 4;
+    let mut points = 0;
+    for i in 0..p {
+        let start = 40 + 4 * i;
+        let Some(count) = part_at(s, start, p - i - 1, n) else {
+            return Err(CountsError::Size(start));
+        };
+        let count = count as usize;
+        at = fields_end(s, at, 8, 2 * count)?;
+        points += count;
     }
-    Walk::On(points)
+    Ok(points)
 }
 
 // Where a range and n values from a place on end; at that place, where the flag is not set.
@@ -83,57 +88,40 @@ pub(crate) fn end_after(flag: bool, n: usize, at: usize) -> usize
 }
 
 // A range and n values from a place on, where the flag is set: the place after them.
-fn judge_measure(s: &[u8], flag: bool, n: usize, at: usize) -> Walk
+fn judge_measure(s: &[u8], flag: bool, n: usize, at: usize) -> Result<usize, CountsError>
     requires { (at ≤ length s.now) × (n ≤ length s.now) }
     ensures { MeasureWalk flag n at s.now result }
 {
     if flag {
-        let rest = s.len() - at;
-        if rest / 8 < 2 + n {
-            return Walk::Short(at + rest / 8 * 8, rest % 8);
-        }
-        return Walk::On(at + 16 + 8 * n);
+        Ok(fields_end(s, at, 8, 2 + n)?)
+    } else {
+        Ok(at)
     }
-    Walk::On(at)
 }
 
 // The pairs, behind the starts of p parts, or the n pairs of a multipoint: how many points are read.
-fn judge_pairs(s: &[u8], parts: bool, p: usize, n: i32) -> Walk
+fn judge_pairs(s: &[u8], parts: bool, p: usize, n: i32) -> Result<usize, CountsError>
     requires { (Counted parts s.now p) × (n ≡ le_i32 (number_at parts) s.now) }
     ensures { PairsWalk parts s.now result }
 {
     if parts {
-        let rest = s.len() - 40;
-        if rest / 4 < p {
-            return Walk::Short(40 + rest / 4 * 4, rest % 4);
-        }
+        fields_end(s, 40, 4, p)?;
         judge_parts(s, p, n)
     } else {
-        let rest = s.len() - 36;
         let points = n as usize;
-        if rest / 16 < points {
-            return Walk::Short(36 + rest / 8 * 8, rest % 8);
-        }
-        Walk::On(points)
+        fields_end(s, 36, 8, 2 * points)?;
+        Ok(points)
     }
 }
 
 // All that follows the counts: how many points are read.
-pub(crate) fn judge_rest(s: &[u8], parts: bool, z: bool, m: bool, p: usize, n: i32) -> Walk
-    requires { (Counted parts s.now p) × (n ≡ le_i32 (number_at parts) s.now) }
-    ensures { RestWalk parts z m s.now result }
+pub(crate) fn judge_rest(s: &[u8], layout: Layout, p: usize, n: i32) -> Result<usize, CountsError>
+    requires { (Counted layout.parts s.now p) × (n ≡ le_i32 (number_at layout.parts) s.now) }
+    ensures { RestWalk layout.parts layout.z layout.m s.now result }
 {
-    match judge_pairs(s, parts, p, n) {
-        Walk::Short(at, present) => Walk::Short(at, present),
-        Walk::Size(at) => Walk::Size(at),
-        Walk::On(points) => match judge_measure(s, z, points, pairs_at(parts, p) + 16 * points) {
-            Walk::Short(at, present) => Walk::Short(at, present),
-            Walk::Size(at) => Walk::Size(at),
-            Walk::On(end) => match judge_measure(s, m, points, end) {
-                Walk::Short(at, present) => Walk::Short(at, present),
-                Walk::Size(at) => Walk::Size(at),
-                Walk::On(_) => Walk::On(points),
-            },
-        },
-    }
+    let points = judge_pairs(s, layout.parts, p, n)?;
+    let z_at = pairs_at(layout.parts, p) + 16 * points;
+    let m_at = judge_measure(s, layout.z, points, z_at)?;
+    judge_measure(s, layout.m, points, m_at)?;
+    Ok(points)
 }

@@ -2,10 +2,14 @@
 #![tactic(auto)]
 
 ghost use Rattle.std.specs.Prelude.{◌≡◌};
-ghost use Rattle.multipart.specs.Answers.{said_part, part_of, said_counts, counts_of, ReadsBody};
-ghost use Rattle.multipart.specs.Walks.{Counted};
+ghost use Rattle.format.specs.declared.shapes.Short.{Short};
+ghost use Rattle.multipart.specs.declared.CountsError.{CountsError};
+ghost use Rattle.multipart.specs.declared.CountsError.TheVariants as CountsErrorIs;
+ghost use Rattle.multipart.specs.declared.BodyError.TheVariants as BodyErrorIs;
+ghost use Rattle.multipart.specs.Answers.{said_part, part_of, said_counts, counts_of, of_counts, ReadsBody};
 
-use judge::Walk;
+use fields::checked;
+use format::shapes::{Layout, Short};
 
 mod judge;
 mod store;
@@ -37,132 +41,101 @@ pub struct Body {
     pub points: usize,
 }
 
-#[derive(Clone, Copy)]
-pub enum PartAnswer {
-    Count(u32),
-    Size,
-}
-
 // How many parts there are, and how many points the body says it has.
-#[derive(Clone, Copy)]
-pub enum CountsAnswer {
-    Are(u32, u32),
-    Short(usize, usize),
+#[derive(Clone, Copy, Debug, PartialEq, Eq)]
+pub struct Counts {
+    pub parts: u32,
+    pub points: u32,
+}
+
+// Why the counts are not read: the bytes end inside a field, or a number at a place is refused.
+#[derive(Clone, Copy, Debug, PartialEq, Eq)]
+pub enum CountsError {
+    Short(Short),
     Size(usize),
 }
 
-#[derive(Clone, Copy)]
-pub enum BodyAnswer {
-    Whole(Body),
-    Short(usize, usize),
+// Why a body is not read: also where a store is too small for these parts and points.
+#[derive(Clone, Copy, Debug, PartialEq, Eq)]
+pub enum BodyError {
+    Short(Short),
     Size(usize),
-    Room(usize, usize),
+    Room { parts: usize, points: usize },
+}
+
+impl From<Short> for CountsError {
+    ghost from_gives = { λ e r. r ≡ CountsErrorIs.Short e };
+
+    fn from(e: Short) -> CountsError {
+        CountsError::Short(e)
+    }
+}
+
+impl From<CountsError> for BodyError {
+    ghost from_gives = { λ e r. r ≡ of_counts e };
+
+    fn from(e: CountsError) -> BodyError {
+        match e {
+            CountsError::Short(short) => BodyError::Short(short),
+            CountsError::Size(at) => BodyError::Size(at),
+        }
+    }
 }
 
 // The points of a part, from its start and its end.
-pub fn part_count(start: i32, end: i32) -> PartAnswer
+pub fn part_count(start: i32, end: i32) -> Option<u32>
     ensures { said_part result ≡ part_of start end }
 {
-    let d = end as i64 - start as i64;
-    if d < 0 {
-        return PartAnswer::Size;
-    }
-    if 0x7fff_ffff < d {
-        return PartAnswer::Size;
-    }
-    PartAnswer::Count(d as u32)
+    let count = end.checked_sub(start)?;
+    u32::try_from(count).ok()
 }
 
 // How many parts and points the body says it has, which stand behind the box: a multipoint has only points.
-pub fn read_counts(s: &[u8], parts: bool) -> CountsAnswer
+pub fn read_counts(s: &[u8], parts: bool) -> Result<Counts, CountsError>
     ensures { said_counts result ≡ counts_of parts s.now }
 {
-    let len = s.len();
-    if len < 32 {
-        return CountsAnswer::Short(len / 8 * 8, len % 8);
-    }
-    if len < 36 {
-        return CountsAnswer::Short(32, len - 32);
-    }
+    // the box
+    judge::fields_end(s, 0, 8, 4)?;
     // the number of parts, or else of points
-    let p = fields::le_i32_at(s, 32);
-    if parts {
-        if len < 40 {
-            return CountsAnswer::Short(36, len - 36);
-        }
-        let n = fields::le_i32_at(s, 36);
-        if p < 0 {
-            return CountsAnswer::Size(32);
-        }
-        if n < 0 {
-            return CountsAnswer::Size(36);
-        }
-        return CountsAnswer::Are(p as u32, n as u32);
+    let first = checked::le_i32(s, 32)?;
+    if !parts {
+        let points = judge::not_negative(first, 32)?;
+        return Ok(Counts { parts: 0, points });
     }
-    if p < 0 {
-        return CountsAnswer::Size(32);
-    }
-    CountsAnswer::Are(0, p as u32)
+    let second = checked::le_i32(s, 36)?;
+    let parts = judge::not_negative(first, 32)?;
+    let points = judge::not_negative(second, 36)?;
+    Ok(Counts { parts, points })
 }
 
-// The rest of a body whose counts are well, with p parts.
-fn read_rest(
-    s: &[u8],
-    parts: bool,
-    z: bool,
-    m: bool,
-    p: usize,
-    counts: &mut [u32],
-    xs: &mut [f64],
-    ys: &mut [f64],
-    zs: &mut [f64],
-    ms: &mut [f64],
-) -> BodyAnswer
-    requires { Counted parts s.now p }
-    ensures { ReadsBody parts z m s.now counts.old xs.old ys.old zs.old ms.old result counts.new xs.new ys.new zs.new ms.new }
-{
-    let n = fields::le_i32_at(s, judge::number_at(parts));
-    match judge::judge_rest(s, parts, z, m, p, n) {
-        Walk::Short(at, present) => BodyAnswer::Short(at, present),
-        Walk::Size(at) => BodyAnswer::Size(at),
-        Walk::On(points) => {
-            if store::has_room(
-                z,
-                m,
-                p,
-                points,
-                counts.len(),
-                xs.len(),
-                ys.len(),
-                zs.len(),
-                ms.len(),
-            ) {
-                let body = store::store_body(s, parts, z, m, p, n, points, counts, xs, ys, zs, ms);
-                BodyAnswer::Whole(body)
-            } else {
-                BodyAnswer::Room(p, points)
-            }
-        }
-    }
-}
-
-// A body with these flags: what it holds, and its values in the stores.
+// A body with this layout: what it holds, and its values in the stores.
+// The C interface lends the stores apart, and a struct of five `&mut` needs a clause for each of its ghost names in every contract.
 pub fn read_body(
     s: &[u8],
-    parts: bool,
-    z: bool,
-    m: bool,
+    layout: Layout,
     counts: &mut [u32],
     xs: &mut [f64],
     ys: &mut [f64],
     zs: &mut [f64],
     ms: &mut [f64],
-) -> BodyAnswer
-    ensures { ReadsBody parts z m s.now counts.old xs.old ys.old zs.old ms.old result counts.new xs.new ys.new zs.new ms.new }
+) -> Result<Body, BodyError>
+    ensures { ReadsBody layout.parts layout.z layout.m s.now counts.old xs.old ys.old zs.old ms.old result counts.new xs.new ys.new zs.new ms.new }
 {
-    match read_counts(s, parts) {
-        CountsAnswer::Short(at, present) => BodyAnswer::Short(at, present),
-        CountsAnswer::Size(at) => BodyAnswer::Size(at),
-        CountsAnswer::Are(p, _) => read_rest(s, parts, z, m, p as usize, counts, xs, ys, zs, ms),
+    let p = read_counts(s, layout.parts)?.parts as usize;
+    let n = fields::le_i32_at(s, judge::number_at(layout.parts));
+    let points = judge::judge_rest(s, layout, p, n)?;
+    let room = store::has_room(
+        layout,
+        p,
+        points,
+        counts.len(),
+        xs.len(),
+        ys.len(),
+        zs.len(),
+        ms.len(),
+    );
+    if !room {
+        return Err(BodyError::Room { parts: p, points });
     }
+    Ok(store::store_body(s, layout, p, n, points, counts, xs, ys, zs, ms))
 }

@@ -1,22 +1,20 @@
 // What a body that was judged puts into the lent stores, each from its front on.
-ghost use Rattle.std.specs.Prelude.{◌≡◌, cond, not, ◌||◌, [], map, ◌+◌, ◌*◌, ◌≤◌, leb, ◌-ℤ◌, length};
+ghost use Rattle.std.specs.Prelude.{◌≡◌, cond, [], map, ◌+◌, ◌*◌, ◌≤◌, ◌-ℤ◌, length};
 ghost use Rattle.std.proofs.lemmas.List.Edits.{sets};
 ghost use Rattle.format.specs.Numbers.{le_i32, doubles_at};
 ghost use Rattle.multipart.specs.Body.{raised, range_at, no_range, has_room};
 ghost use Rattle.multipart.specs.Parts.{count_of, starts_at};
 ghost use Rattle.multipart.specs.Walks.{end_of, end_after, differences_of, body_at, Ready, Stores};
 
-use crate::{BBox, Body, PartAnswer, Range, judge};
+use crate::{BBox, Body, Range, judge};
+use format::shapes::Layout;
 
 // A part's count of points; none, where the part is refused.
 fn count_at(s: &[u8], start: usize, follow: usize, n: i32) -> u32
     requires { start + 4 + 4 * follow ≤ length s.now }
     ensures { result ≡ count_of (end_of (starts_at follow (start + 4) s.now) n -ℤ le_i32 start s.now) }
 {
-    match judge::part_at(s, start, follow, n) {
-        PartAnswer::Count(k) => k,
-        PartAnswer::Size => 0,
-    }
+    judge::part_at(s, start, follow, n).unwrap_or(0)
 }
 
 // One count for each of p parts, where the flag is set: a multipoint has none.
@@ -25,15 +23,8 @@ fn store_counts(s: &[u8], parts: bool, p: usize, n: i32, counts: &mut [u32])
     ensures { counts.new ≡ sets counts.old 0 (cond parts (map count_of (differences_of p n s.now)) []) }
 {
     if parts {
-        let mut left = p;
-        let mut start: usize = 40;
-        let mut i: usize = 0;
-        while 0 < left {
-            left -= 1;
-            let k = count_at(s, start, left, n);
-            counts[i] = k;
-            i += 1;
-            start += 4;
+        for i in 0..p {
+            counts[i] = count_at(s, 40 + 4 * i, p - i - 1, n);
         }
     }
 }
@@ -51,13 +42,11 @@ fn store_pairs(s: &[u8], at: usize, points: usize, xs: &mut [f64], ys: &mut [f64
     requires { (at + 16 * points ≤ length s.now) × (points ≤ length xs.old) × (points ≤ length ys.old) }
     ensures { (xs.new ≡ sets xs.old 0 (doubles_at 16 points at s.now)) × (ys.new ≡ sets ys.old 0 (doubles_at 16 points (at + 8) s.now)) }
 {
-    let mut i: usize = 0;
-    while i < points {
+    for i in 0..points {
         let x = fields::le_f64_at(s, at + 16 * i);
         let y = fields::le_f64_at(s, at + 8 + 16 * i);
         xs[i] = x;
         ys[i] = y;
-        i += 1;
     }
 }
 
@@ -84,11 +73,8 @@ fn store_m(s: &[u8], m: bool, n: usize, at: usize, ms: &mut [f64])
     ensures { ms.new ≡ sets ms.old 0 (cond m (map raised (doubles_at 8 n (at + 16) s.now)) []) }
 {
     if m {
-        let mut i: usize = 0;
-        while i < n {
-            let x = raise(fields::le_f64_at(s, at + 16 + 8 * i));
-            ms[i] = x;
-            i += 1;
+        for i in 0..n {
+            ms[i] = raise(fields::le_f64_at(s, at + 16 + 8 * i));
         }
     }
 }
@@ -111,17 +97,9 @@ fn range_at(s: &[u8], flag: bool, at: usize) -> Range
     }
 }
 
-// Whether a store of a length holds n entries, where it is used.
-fn holds(used: bool, n: usize, room: usize) -> bool
-    ensures { result ≡ (not used || leb n room) }
-{
-    if used { n <= room } else { true }
-}
-
-// Whether stores of these lengths hold p parts and n points.
+// Whether stores of these lengths hold p parts and n points; z and m only where they are used.
 pub(crate) fn has_room(
-    z: bool,
-    m: bool,
+    layout: Layout,
     p: usize,
     n: usize,
     counts: usize,
@@ -130,30 +108,17 @@ pub(crate) fn has_room(
     zs: usize,
     ms: usize,
 ) -> bool
-    ensures { result ≡ has_room z m p n counts xs ys zs ms }
+    ensures { result ≡ has_room layout.z layout.m p n counts xs ys zs ms }
 {
-    if counts < p {
-        return false;
-    }
-    if xs < n {
-        return false;
-    }
-    if ys < n {
-        return false;
-    }
-    if holds(z, n, zs) {
-        holds(m, n, ms)
-    } else {
-        false
-    }
+    p <= counts && n <= xs && n <= ys && (!layout.z || n <= zs) && (!layout.m || n <= ms)
 }
 
 // What a body with these counts holds beside the values; its pairs end at a place.
-fn body_at(s: &[u8], z: bool, m: bool, parts: usize, points: usize, end: usize) -> Body
-    requires { (32 ≤ length s.now) × (end_after m points (end_after z points end) ≤ length s.now) }
-    ensures { result ≡ body_at z m parts points end s.now }
+fn body_at(s: &[u8], layout: Layout, parts: usize, points: usize, end: usize) -> Body
+    requires { (32 ≤ length s.now) × (end_after layout.m points (end_after layout.z points end) ≤ length s.now) }
+    ensures { result ≡ body_at layout.z layout.m parts points end s.now }
 {
-    let m_at = judge::end_after(z, points, end);
+    let m_at = judge::end_after(layout.z, points, end);
     Body {
         bbox: BBox {
             xmin: fields::le_f64_at(s, 0),
@@ -161,8 +126,8 @@ fn body_at(s: &[u8], z: bool, m: bool, parts: usize, points: usize, end: usize) 
             xmax: fields::le_f64_at(s, 16),
             ymax: fields::le_f64_at(s, 24),
         },
-        z_range: range_at(s, z, end),
-        m_range: range_at(s, m, m_at),
+        z_range: range_at(s, layout.z, end),
+        m_range: range_at(s, layout.m, m_at),
         parts,
         points,
     }
@@ -171,9 +136,7 @@ fn body_at(s: &[u8], z: bool, m: bool, parts: usize, points: usize, end: usize) 
 // All values of a body with these parts and points, into stores that have room for them.
 pub(crate) fn store_body(
     s: &[u8],
-    parts: bool,
-    z: bool,
-    m: bool,
+    layout: Layout,
     p: usize,
     n: i32,
     points: usize,
@@ -183,14 +146,15 @@ pub(crate) fn store_body(
     zs: &mut [f64],
     ms: &mut [f64],
 ) -> Body
-    requires { Ready parts z m s.now p n points (length counts.old) (length xs.old) (length ys.old) (length zs.old) (length ms.old) }
-    ensures { Stores parts z m s.now counts.old xs.old ys.old zs.old ms.old result counts.new xs.new ys.new zs.new ms.new }
+    requires { Ready layout.parts layout.z layout.m s.now p n points (length counts.old) (length xs.old) (length ys.old) (length zs.old) (length ms.old) }
+    ensures { Stores layout.parts layout.z layout.m s.now counts.old xs.old ys.old zs.old ms.old result counts.new xs.new ys.new zs.new ms.new }
 {
-    let at = judge::pairs_at(parts, p);
+    let at = judge::pairs_at(layout.parts, p);
     let end = at + 16 * points;
-    store_counts(s, parts, p, n, counts);
+    store_counts(s, layout.parts, p, n, counts);
     store_pairs(s, at, points, xs, ys);
-    store_z(s, z, points, end, zs);
-    store_m(s, m, points, judge::end_after(z, points, end), ms);
-    body_at(s, z, m, p, points, end)
+    store_z(s, layout.z, points, end, zs);
+    let m_at = judge::end_after(layout.z, points, end);
+    store_m(s, layout.m, points, m_at, ms);
+    body_at(s, layout, p, points, end)
 }
