@@ -3,36 +3,55 @@ use mathlib.Core.Path.{◌≡◌, refl, sym, ap, ap₂, ◌∙◌}
 use mathlib.Core.Bool.{Bool, true, false, cond, ◌||◌}
 use mathlib.Core.List.{List}
 use mathlib.Core.Option.{Option, none, some}
-use Prim.Native.Nat.{ℕ, ◌+◌}
+use Prim.Native.Nat.{ℕ}
 use native.Mathlib.Omega.{arith}
 use lib.Dec.{eqb}
 use lib.IntN.{ℤ, pos}
-use lib.ListN.{drop}
+use Rattle.std.specs.Prelude as Std
+use Rattle.std.specs.Prelude.{Result, Ok, Err}
+use Rattle.std.specs.Result.{result_ok}
 use Rattle.format.specs.declared.kinds.Kind.{Kind}
+use Rattle.format.specs.declared.kinds.UnknownKind.{UnknownKind}
+use Rattle.format.specs.declared.lengths.KindError.{KindError}
+use Rattle.format.specs.declared.lengths.KindError.TheVariants.{Unknown, NotTaken}
 use Rattle.format.specs.declared.lengths.Lengths.{Lengths}
-use Rattle.format.specs.Kinds.{null_kind, kind_at}
-use Rattle.format.specs.Lengths.{Form, nothing, one_point, many_points, parts, has_several, form_of, several, front_words, lengths_of}
+use Rattle.format.specs.Kinds.{null_kind, said_found, kind_of, kind_at}
+use Rattle.format.specs.Lengths.{Form, nothing, one_point, many_points, parts, has_several, form_of, several, front_words, lengths_of, said_content, content_of}
 use Rattle.format.specs.Numbers.{le_i32}
 use Rattle.format.specs.WellFormed.{has_rings, least_points}
 use Rattle.format.proofs.Equations.{front-null, front-point, front_many, front-parts, rings_is, least-is}
 use Rattle.format.proofs.KindLaws as Kinds
-use Rattle.format.proofs.KindLaws.{named_at}
-use Rattle.format.proofs.LengthLaws.{lengths_form, Flags, form_flags, form-several, null_row, null-form}
+use Rattle.format.proofs.KindLaws.{kind_found, none_found, named_at}
+use Rattle.format.proofs.LengthLaws.{content-none, content_some, content-known, lengths_form, Flags, form_flags, form-several, null_row, null-form}
 use Rattle.rules.specs.Rules.{Taken, null_taken, little_at, with_form, taken_of, taken_in, own_taken}
 use Rattle.rules.proofs.HeaderRules.{named}
 use Rattle.rules.proofs.FirstFault.{taken_is}
-use Rattle.rules.proofs.PlaceLaws.{little-drop}
 use Rattle.pair.specs.declared.plans.Plan.{Plan}
-use Rattle.pair.specs.declared.plans.Planned.TheVariants.{Is, NotTaken}
 use Rattle.pair.specs.Plans.{has_parts, points_alone, plan_for, planned, alone, taken_from}
 
 -- ---- the plan of a code
 
-pub unknown : (z : ℤ) → kind_at z ≡ none → NotTaken ≡ planned (taken_of (kind_at z))
-unknown z e = sym (ap (λ (o : Option Kind). planned (taken_of o)) e)
+-- no kind is found, or one; and no lengths, or these
+pub no_kind : (z : ℤ) (r : Result Kind UnknownKind) → said_found r ≡ kind_of z → Std.None ≡ result_ok r → Std.None ≡ planned (taken_of (kind_at z))
+no_kind z (Ok k) e n = cc
+no_kind z (Err f) e n = sym (ap (λ (o : Option Kind). planned (taken_of o)) (none_found z (Err f) e f refl))
 
-pub not_taken : (z : ℤ) (k : Kind) → kind_at z ≡ some k → form_of k ≡ none → NotTaken ≡ planned (taken_of (kind_at z))
-not_taken z k e n = sym (ap planned (ap taken_of e ∙ ap (with_form k) n))
+pub one_kind : (z : ℤ) (r : Result Kind UnknownKind) (k : Kind) → said_found r ≡ kind_of z → Std.Some k ≡ result_ok r → kind_at z ≡ some k
+one_kind z (Ok j) k e s = kind_found z (Ok j) e k (let q : j ≡ k = cc in ap Ok q)
+one_kind z (Err f) k e s = cc
+
+module _ (z : ℤ) (k : Kind) (h : kind_at z ≡ some k) where
+  not_taken : form_of k ≡ none → Std.None ≡ planned (taken_of (kind_at z))
+  not_taken n = sym (ap planned (ap taken_of h ∙ ap (with_form k) n))
+
+  pub no_lengths : (r : Result Lengths KindError) → said_content r ≡ content_of z → Std.None ≡ result_ok r → Std.None ≡ planned (taken_of (kind_at z))
+  no_lengths (Ok l) e n = cc
+  no_lengths (Err (NotTaken code)) e n = not_taken (content-none k z h (Err (NotTaken code)) e code refl)
+  no_lengths (Err (Unknown code)) e n = absurd (content-known k z h (Err (Unknown code)) e code refl)
+
+  pub these_lengths : (r : Result Lengths KindError) (l : Lengths) → said_content r ≡ content_of z → Std.Some l ≡ result_ok r → lengths_of k ≡ some l
+  these_lengths (Ok j) l e s = content_some k z h (Ok j) e l (let q : j ≡ l = cc in ap Ok q)
+  these_lengths (Err f) l e s = cc
 
 -- a kind that does not say how many points there are has code 0, or one
 form-parts : (k : Kind) (f : Form) → Flags k f → (k.parts ≡ has_parts f) × (cond (eqb k.code 0) 0 1 ≡ points_alone f)
@@ -59,7 +78,7 @@ pub is-taken : (z : ℤ) (k : Kind) (l : Lengths) (many : Bool) (points front le
     → front ≡ front_of k.parts many
     → rings ≡ (eqb k.code 5 || eqb k.code 15 || eqb k.code 25)
     → least ≡ cond rings 4 2
-    → Is (record { kind = k; several = many; parts = k.parts; points = points; front = front; rings = rings; least = least; lengths = l }) ≡ planned (taken_of (kind_at z))
+    → Std.Some (record { kind = k; several = many; parts = k.parts; points = points; front = front; rings = rings; least = least; lengths = l }) ≡ planned (taken_of (kind_at z))
 is-taken z k l many points front least rings e n ms ps fs rs ls =
     let o = lengths_form k l n in
     let flags = form_flags z k o.0 e o.1 in
@@ -69,8 +88,8 @@ is-taken z k l many points front least rings e n ms ps fs rs ls =
     let w : front ≡ front_words o.0 0 = fs ∙ (ap₂ front_of p.0 s ∙ front-of o.0) in
     let r = rs ∙ sym (rings_is k) in
     let m : least ≡ least_points k = ls ∙ (ap (λ (x : Bool). cond x 4 2) r ∙ sym (least-is k)) in
-    let plan : Is (record { kind = k; several = many; parts = k.parts; points = points; front = front; rings = rings; least = least; lengths = l }) ≡ planned (with_form k (some o.0)) =
-    λ i. Is (record { kind = k; several = s i; parts = p.0 i; points = q i; front = w i; rings = r i; least = m i; lengths = o.2 i }) in
+    let plan : Std.Some (record { kind = k; several = many; parts = k.parts; points = points; front = front; rings = rings; least = least; lengths = l }) ≡ planned (with_form k (some o.0)) =
+    λ i. Std.Some (record { kind = k; several = s i; parts = p.0 i; points = q i; front = w i; rings = r i; least = m i; lengths = o.2 i }) in
     plan ∙ sym (ap planned (ap taken_of e ∙ ap (with_form k) o.1))
 
 -- a plan tells the kind that it is for
@@ -89,11 +108,11 @@ told t = λ i. record { kind = t.kind; form = form-told t.form i }
 pub in_header : (s : List ℕ) → taken_of (kind_at (le_i32 32 s)) ≡ taken_in s
 in_header s = ap taken_of (named_at 32 s) ∙ sym (taken_is s)
 
-pub none-taken : (o : Option Taken) → planned o ≡ NotTaken → o ≡ none
+pub none-taken : (o : Option Taken) → planned o ≡ Std.None → o ≡ none
 none-taken none e = refl
 none-taken (some t) e = absurd (let z : ◌≡◌ {A = ℕ} 0 1 = cc in omega arith)
 
-pub one_taken : (o : Option Taken) (plan : Plan) → planned o ≡ Is plan → (o ≡ some (taken_from plan)) × (plan ≡ plan_for (taken_from plan))
+pub one_taken : (o : Option Taken) (plan : Plan) → planned o ≡ Std.Some plan → (o ≡ some (taken_from plan)) × (plan ≡ plan_for (taken_from plan))
 one_taken none plan e = absurd (let z : ◌≡◌ {A = ℕ} 0 1 = cc in omega arith)
 one_taken (some t) plan e =
     let q : plan_for t ≡ plan = cc in
@@ -112,16 +131,16 @@ rings_parts s t e r =
 null-taken : taken_of (kind_at (pos 0)) ≡ some null_taken
 null-taken = ap taken_of null_row ∙ ap (with_form null_kind) null-form
 
-pub null_plan : (plan : Plan) → planned (taken_of (kind_at (pos 0))) ≡ Is plan → plan ≡ plan_for null_taken
-null_plan plan e = let q : Is (plan_for null_taken) ≡ Is plan = sym (ap planned null-taken) ∙ e in cc
+pub null_plan : (plan : Plan) → planned (taken_of (kind_at (pos 0))) ≡ Std.Some plan → plan ≡ plan_for null_taken
+null_plan plan e = let q : Std.Some (plan_for null_taken) ≡ Std.Some plan = sym (ap planned null-taken) ∙ e in cc
 
-pub null-is-taken : planned (taken_of (kind_at (pos 0))) ≡ NotTaken → ⊥
+pub null-is-taken : planned (taken_of (kind_at (pos 0))) ≡ Std.None → ⊥
 null-is-taken e = let z : ◌≡◌ {A = ℕ} 0 1 = cc (sym (ap planned null-taken) ∙ e) in omega arith
 
-pub record Owned (plan own : Plan) (s : List ℕ) (at : ℕ) : Type 0 where
+pub record Owned (plan own : Plan) (l : List ℕ) : Type 0 where
   pub is : own ≡ plan_for (taken_from own)
   pub ringed : own.rings ≡ true → own.parts ≡ true
-  pub kind_is : taken_from own ≡ own_taken (taken_from plan) (drop at s)
+  pub kind_is : taken_from own ≡ own_taken (taken_from plan) l
 
 module _ (plan null own : Plan) (p : plan ≡ plan_for (taken_from plan)) (n : null ≡ plan_for null_taken) (ringed : plan.rings ≡ true → plan.parts ≡ true) where
   by_field : (b : Bool) → own ≡ cond b null plan
@@ -133,5 +152,5 @@ module _ (plan null own : Plan) (p : plan ≡ plan_for (taken_from plan)) (n : n
   by_field false e =
       (e ∙ (p ∙ ap (λ (x : Plan). plan_for (taken_from x)) (sym e)), λ r. ap (λ (x : Plan). x.parts) e ∙ ringed (sym (ap (λ (x : Plan). x.rings) e) ∙ r), ap taken_from e)
 
-  pub owned : (s : List ℕ) (at : ℕ) → own ≡ cond (eqb (little_at (at + 8) s) 0) null plan → Owned plan own s at
-  owned s at e = let q = by_field (eqb (little_at (at + 8) s) 0) e in record { is = q.0; ringed = q.1; kind_is = rw (little-drop at s 8) q.2 }
+  pub owned : (l : List ℕ) → own ≡ cond (eqb (little_at 8 l) 0) null plan → Owned plan own l
+  owned l e = let q = by_field (eqb (little_at 8 l) 0) e in record { is = q.0; ringed = q.1; kind_is = q.2 }

@@ -6,21 +6,27 @@ use Prim.Native.Nat.{ℕ, ◌≤◌}
 use native.Mathlib.Omega.{arith}
 use lib.ListN.{length, take, drop}
 use borrow.Author.Tests.{leb-true}
+use Rattle.std.specs.Prelude.{Err}
 use Rattle.format.specs.Order.{first}
 use Rattle.format.specs.Said.{fault}
 use Rattle.format.proofs.OrderLaws.{no_fault}
 use Rattle.rules.specs.Rules.{Taken, taken_in, headers_rules, headers_fault, walk_from, none_yet, verdict}
 use Rattle.rules.proofs.FirstFault.{front-first, then_others}
 use Rattle.rules.proofs.VerdictLaws.{fault_on, verdict-is, verdict-walk}
-use Rattle.pair.specs.Verdicts.{front_fault, back_fault}
+use Rattle.pair.specs.declared.Fault.{Fault}
+use Rattle.pair.specs.Verdicts.{front_fault, back_fault, found}
+use Rattle.pair.proofs.FoundLaws.{found_fault}
 
 module _ (shp shx : List ℕ) where
   faulty : (r : ℕ) → headers_fault shp shx ≡ r → (r ≡ 0 → ⊥) → fault r 0 ≡ verdict shp shx
   faulty r e n = sym (verdict-is shp shx ∙ rw e (fault_on r 0 _ (omega (arith, n))))
 
-  pub by_front : (r : ℕ) → r ≡ front_fault shp shx → (r ≡ 0 → ⊥) → fault r 0 ≡ verdict shp shx
+  first_of : (r : ℕ) → front_fault shp shx ≡ r → (r ≡ 0 → ⊥) → fault r 0 ≡ verdict shp shx
   unfolding front_fault
-  by_front r e n = faulty r (front-first shp shx r (sym e) n) n
+  first_of r e n = faulty r (front-first shp shx r e n) n
+
+  pub by_front : (f : Fault) → Err f ≡ found (front_fault shp shx) 0 → fault f.rule f.record ≡ verdict shp shx
+  by_front f e = let q = found_fault _ _ f e in rw q.1 (first_of f.rule q.0 q.2)
 
   module _ (front : 0 ≡ front_fault shp shx) where
     further : headers_fault shp shx ≡ first (drop 3 (headers_rules shp shx)) 0
@@ -41,8 +47,8 @@ module _ (shp shx : List ℕ) where
       unfolding back_fault
       last = further ∙ rw is
 
-      pub by_back : (r : ℕ) → r ≡ back_fault shp shx → (r ≡ 0 → ⊥) → fault r 0 ≡ verdict shp shx
-      by_back r e n = faulty r (last ∙ sym e) n
+      pub by_back : (f : Fault) → Err f ≡ found (back_fault shp shx) 0 → fault f.rule f.record ≡ verdict shp shx
+      by_back f e = let q = found_fault _ _ f e in rw q.1 (faulty f.rule (last ∙ q.0) q.2)
 
       pub by_records : 0 ≡ back_fault shp shx → walk_from t (drop 100 shp) (drop 100 shx) 100 none_yet ≡ verdict shp shx
       by_records e = sym (verdict-walk shp shx t (last ∙ sym e) is)

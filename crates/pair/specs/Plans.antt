@@ -1,5 +1,6 @@
 -- What a taken kind settles for each record, as the code holds it, and numbers that an i32 field holds.
 use Rattle.std.specs.Prelude.{◌≡◌, Bool, true, false, cond, ℕ, zero, suc, ◌^◌, ◌<◌, pos, nat_abs}
+use Rattle.std.specs.Prelude as Std
 use Rattle.std.proofs.Math.Option.{Option, none, some}
 use Rattle.std.specs.Int.{w32}
 use Rattle.std.proofs.Common.{to_z}
@@ -8,8 +9,6 @@ use Rattle.format.specs.Lengths.{Form, nothing, one_point, many_points, parts, s
 use Rattle.format.specs.WellFormed.{has_rings, least_points}
 use Rattle.rules.specs.Rules.{Taken}
 use Rattle.pair.specs.declared.plans.Plan.{Plan}
-use Rattle.pair.specs.declared.plans.Planned.{Planned}
-use Rattle.pair.specs.declared.plans.Planned.TheVariants.{Is, NotTaken}
 
 -- r is the number v, which 32 bits hold
 pub record Word (v r : ℕ) : Type 0 where
@@ -51,9 +50,9 @@ plan_for t =
       lengths = lengths_for t.kind t.form;
     }
 
-abbrev pub planned : Option Taken → Planned
-planned none = NotTaken
-planned (some t) = Is (plan_for t)
+abbrev pub planned : Option Taken → Std.Option Plan
+planned none = Std.None
+planned (some t) = Std.Some (plan_for t)
 
 -- and the kind that a plan is for
 abbrev pub alone : ℕ → Form

@@ -1,12 +1,13 @@
 // The rules P1 to P13, each of them a test, and the first that is broken: of the headers, and of a record's header, entry and kind.
-ghost use Rattle.std.specs.Prelude.{◌≡◌, ◌||◌, ◌+◌, ◌*◌, ◌^◌, ◌≤◌, ◌<◌, pos, length, drop};
+ghost use Rattle.std.specs.Prelude.{◌≡◌, ◌||◌, ◌+◌, ◌*◌, ◌^◌, ◌≤◌, ◌<◌, pos, length};
 ghost use Rattle.format.specs.Lengths.{formula_words};
 ghost use Rattle.format.specs.Units.{same_int};
 ghost use Rattle.rules.specs.Rules.{P3, P7, P8, P9, P10, P11, P12, P13, length_right, big_at};
 ghost use Rattle.pair.specs.Plans.{plan_for, taken_from};
-ghost use Rattle.pair.specs.Verdicts.{front_fault, back_fault, head_fault};
+ghost use Rattle.pair.specs.Verdicts.{front_fault, back_fault, head_fault, found};
 
-use crate::leaves::{big, in_bytes, little, same_bytes, words_at};
+use crate::Fault;
+use crate::leaves::{big, in_bytes, little, names_bytes, words_at};
 use crate::plans::Plan;
 use format::kinds::Kind;
 use format::lengths::Lengths;
@@ -19,13 +20,7 @@ fn starts_right(shp: &[u8]) -> bool
     requires { 100 ≤ length shp.now }
     ensures { result ≡ P3 shp.now }
 {
-    if big(shp, 0) != 9994 {
-        return false;
-    }
-    if !crate::leaves::zero_bytes(shp, 4, 20) {
-        return false;
-    }
-    little(shp, 28) == 1000
+    big(shp, 0) == 9994 && shp[4..24] == [0; 20] && little(shp, 28) == 1000
 }
 
 // A length field doubled is the byte count: P5 of the .shp.
@@ -33,11 +28,7 @@ fn length_right(s: &[u8]) -> bool
     requires { 100 ≤ length s.now }
     ensures { result ≡ length_right s.now }
 {
-    let words = words_at(s, 24);
-    if words.0 < 0 {
-        return false;
-    }
-    in_bytes(words) == s.len()
+    names_bytes(s, 24, s.len())
 }
 
 // P7: the .shx's header is the .shp's, but for the length field.
@@ -45,10 +36,7 @@ fn headers_agree(shp: &[u8], shx: &[u8]) -> bool
     requires { (100 ≤ length shp.now) × (100 ≤ length shx.now) }
     ensures { result ≡ P7 shp.now shx.now }
 {
-    if !same_bytes(shx, shp, 0, 24) {
-        return false;
-    }
-    same_bytes(shx, shp, 28, 72)
+    shx[..24] == shp[..24] && shx[28..100] == shp[28..100]
 }
 
 // P8: the length of the .shx is right, and it has whole entries.
@@ -56,109 +44,80 @@ fn index_sized(shx: &[u8]) -> bool
     requires { 100 ≤ length shx.now }
     ensures { result ≡ P8 shx.now }
 {
-    if !length_right(shx) {
-        return false;
-    }
-    (shx.len() - 100) % 8 == 0
+    length_right(shx) && (shx.len() - 100) % 8 == 0
 }
 
-// The first of P1 to P3 that the headers break; 0 for none.
-pub(crate) fn front_fault(shp: &[u8], shx: &[u8]) -> usize
-    ensures { result ≡ front_fault shp.now shx.now }
+// The first of P1 to P3 that the headers break.
+#[tactic(auto, unfolding(crate::specs::Verdicts::front_fault))]
+pub(crate) fn check_front(shp: &[u8], shx: &[u8]) -> Result<(), Fault>
+    ensures { result ≡ found (front_fault shp.now shx.now) 0 }
 {
     if shp.len() < 100 {
-        return 1;
+        return Err(Fault { rule: 1, record: 0 });
     }
     if shx.len() < 100 {
-        return 2;
+        return Err(Fault { rule: 2, record: 0 });
     }
     if !starts_right(shp) {
-        return 3;
+        return Err(Fault { rule: 3, record: 0 });
     }
-    0
+    Ok(())
 }
 
 // And the first of P5 to P8.
-pub(crate) fn back_fault(shp: &[u8], shx: &[u8]) -> usize
+#[tactic(auto, unfolding(crate::specs::Verdicts::back_fault))]
+pub(crate) fn check_back(shp: &[u8], shx: &[u8]) -> Result<(), Fault>
     requires { (100 ≤ length shp.now) × (100 ≤ length shx.now) }
-    ensures { result ≡ back_fault shp.now shx.now }
+    ensures { result ≡ found (back_fault shp.now shx.now) 0 }
 {
     if !length_right(shp) {
-        return 5;
+        return Err(Fault { rule: 5, record: 0 });
     }
     if !crate::leaves::all_finite(shp, 36, 8) {
-        return 6;
+        return Err(Fault { rule: 6, record: 0 });
     }
     if !headers_agree(shp, shx) {
-        return 7;
+        return Err(Fault { rule: 7, record: 0 });
     }
     if !index_sized(shx) {
-        return 8;
+        return Err(Fault { rule: 8, record: 0 });
     }
-    0
+    Ok(())
 }
 
-// ---- a record, whose header stands at a place
+// ---- a record: its bytes with all behind them, and the index from its entry on
 
 // P9: eight bytes are there, and the number is k.
-fn numbered(shp: &[u8], at: usize, k: usize) -> bool
-    requires { at ≤ length shp.now }
-    ensures { result ≡ P9 (drop at shp.now) k }
+fn numbered(rest: &[u8], k: usize) -> bool
+    ensures { result ≡ P9 rest.now k }
 {
-    if shp.len() - at < 8 {
-        return false;
-    }
-    if big(shp, at) != k {
-        return false;
-    }
-    k < 0x8000_0000
+    rest.len() >= 8 && big(rest, 0) == k && k < 0x8000_0000
 }
 
 // P10: a content of at least 2 words lies in the file.
-fn inside(shp: &[u8], at: usize) -> bool
-    requires { at + 8 ≤ length shp.now }
-    ensures { result ≡ P10 (drop at shp.now) }
+fn inside(rest: &[u8]) -> bool
+    requires { 8 ≤ length rest.now }
+    ensures { result ≡ P10 rest.now }
 {
-    let words = words_at(shp, at + 4);
-    if words.0 < 0 {
-        return false;
-    }
-    if words.0 < 2 {
-        return false;
-    }
-    8 + in_bytes(words) <= shp.len() - at
+    let words = words_at(rest, 4);
+    words.0 >= 2 && 8 + in_bytes(words) <= rest.len()
 }
 
 // P11: the entry is there, with this offset and length.
-fn indexed(shp: &[u8], shx: &[u8], at: usize, ix: usize) -> bool
-    requires { (at + 8 ≤ length shp.now) × (ix ≤ length shx.now) }
-    ensures { result ≡ P11 (drop at shp.now) (drop ix shx.now) at }
+fn indexed(rest: &[u8], index: &[u8], at: usize) -> bool
+    requires { 8 ≤ length rest.now }
+    ensures { result ≡ P11 rest.now index.now at }
 {
-    if shx.len() - ix < 8 {
-        return false;
-    }
-    let offset = words_at(shx, ix);
-    if offset.0 < 0 {
-        return false;
-    }
-    if in_bytes(offset) != at {
-        return false;
-    }
-    let indexed = words_at(shx, ix + 4);
-    let own = words_at(shp, at + 4);
-    indexed.0 == own.0
+    index.len() >= 8 && names_bytes(index, 0, at) && big(index, 4) == big(rest, 4)
 }
 
 // P12: the kind is the header's, or Null.
-fn of_kind(kind: Kind, shp: &[u8], at: usize) -> bool
-    requires { at + 12 ≤ length shp.now }
-    ensures { result ≡ P12 kind (drop at shp.now) }
+fn of_kind(kind: Kind, rest: &[u8]) -> bool
+    requires { 12 ≤ length rest.now }
+    ensures { result ≡ P12 kind rest.now }
 {
-    let code = little(shp, at + 8);
-    if code == kind.code as usize {
-        return true;
-    }
-    code == 0
+    let code = little(rest, 8);
+    code == kind.code as usize || code == 0
 }
 
 // One of the two formulas of a kind gives so many words.
@@ -166,20 +125,17 @@ fn measures(lengths: Lengths, p: usize, n: usize, words: Words) -> bool
     requires { (p < 2 ^ 31) × (n < 2 ^ 31) }
     ensures { result ≡ (same_int words.0 (pos (formula_words lengths.without p n)) || same_int words.0 (pos (formula_words lengths.with p n))) }
 {
-    let without = lengths.without;
-    if format::lengths::comes_to(without, p as u32, n as u32, words) {
-        return true;
-    }
-    let with = lengths.with;
-    format::lengths::comes_to(with, p as u32, n as u32, words)
+    let (p, n) = (p as u32, n as u32);
+    format::lengths::comes_to(lengths.without, p, n, words)
+        || format::lengths::comes_to(lengths.with, p, n, words)
 }
 
 // P13: the counts are not negative, and the length is one that they give. Too few words for the counts fit no formula.
-pub(crate) fn sized(plan: Plan, shp: &[u8], at: usize) -> bool
-    requires { (plan ≡ plan_for (taken_from plan)) × (at + 8 + 2 * big_at (at + 4) shp.now ≤ length shp.now) × (big_at (at + 4) shp.now < 2 ^ 31) }
-    ensures { result ≡ P13 (taken_from plan) (drop at shp.now) }
+pub(crate) fn sized(plan: Plan, rest: &[u8]) -> bool
+    requires { (plan ≡ plan_for (taken_from plan)) × (8 + 2 * big_at 4 rest.now ≤ length rest.now) × (big_at 4 rest.now < 2 ^ 31) }
+    ensures { result ≡ P13 (taken_from plan) rest.now }
 {
-    let words = words_at(shp, at + 4);
+    let words = words_at(rest, 4);
     let lengths = plan.lengths;
     if !plan.several {
         return measures(lengths, 0, plan.points, words);
@@ -187,7 +143,7 @@ pub(crate) fn sized(plan: Plan, shp: &[u8], at: usize) -> bool
     if words.0 < 20 {
         return false;
     }
-    let count = little(shp, at + 44);
+    let count = little(rest, 44);
     if count >= 0x8000_0000 {
         return false;
     }
@@ -197,37 +153,44 @@ pub(crate) fn sized(plan: Plan, shp: &[u8], at: usize) -> bool
     if words.0 < 22 {
         return false;
     }
-    let n = little(shp, at + 48);
+    let n = little(rest, 48);
     if n >= 0x8000_0000 {
         return false;
     }
     measures(lengths, count, n, words)
 }
 
-// The first of P9 to P12 that record k breaks; 0 for none.
-pub(crate) fn head_fault(
+// The first of P9 to P12 that a record breaks.
+#[tactic(auto, unfolding(crate::specs::Verdicts::head_fault))]
+pub(crate) fn check_head(
     plan: Plan,
-    shp: &[u8],
-    shx: &[u8],
+    rest: &[u8],
+    index: &[u8],
     at: usize,
-    ix: usize,
     k: usize,
-) -> usize
-    requires { (at ≤ length shp.now) × (ix ≤ length shx.now) }
-    ensures { result ≡ head_fault plan.kind (drop at shp.now) (drop ix shx.now) at k }
+) -> Result<(), Fault>
+    ensures { result ≡ found (head_fault plan.kind rest.now index.now at k) k }
 {
-    if !numbered(shp, at, k) {
-        return 9;
+    if !numbered(rest, k) {
+        return Err(Fault { rule: 9, record: k });
     }
-    if !inside(shp, at) {
-        return 10;
+    if !inside(rest) {
+        return Err(Fault {
+            rule: 10,
+            record: k,
+        });
     }
-    if !indexed(shp, shx, at, ix) {
-        return 11;
+    if !indexed(rest, index, at) {
+        return Err(Fault {
+            rule: 11,
+            record: k,
+        });
     }
-    let kind = plan.kind;
-    if !of_kind(kind, shp, at) {
-        return 12;
+    if !of_kind(plan.kind, rest) {
+        return Err(Fault {
+            rule: 12,
+            record: k,
+        });
     }
-    0
+    Ok(())
 }

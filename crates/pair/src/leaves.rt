@@ -1,13 +1,12 @@
 // What the rules are made of: numbers at a place of the bytes, runs of bytes and of doubles, the end of a part. Internal: a caller shows
 // that what is read lies within the bytes.
-ghost use Rattle.std.specs.Prelude.{◌≡◌, ◌+◌, ◌*◌, ◌^◌, ◌≤◌, ◌<◌, nat_abs, length, replicate};
-ghost use Rattle.format.specs.Bytes.{field};
+ghost use Rattle.std.specs.Prelude.{◌≡◌, ◌&&◌, ◌+◌, ◌*◌, ◌-◌, ◌/◌, ◌^◌, ◌≤◌, ◌<◌, eqb, nat_abs, length};
 ghost use Rattle.format.specs.Numbers.{finite};
 ghost use Rattle.format.specs.WellFormed.{same_number};
-ghost use Rattle.rules.specs.Rules.{big_at, little_at, double_at, same_bytes, finites, end_of, ring_closed};
+ghost use Rattle.rules.specs.Rules.{big_at, little_at, double_at, held, finites, end_of, ring_closed};
 ghost use Rattle.pair.specs.Plans.{Word, Field, Whole};
 
-use format::units::Words;
+use format::units::{Bytes, Words};
 
 // The bits of an i32 field, high byte first.
 pub(crate) fn big(s: &[u8], at: usize) -> usize
@@ -41,13 +40,29 @@ pub(crate) fn count(words: Words) -> usize
     words.0 as usize
 }
 
-// And in bytes.
+// The doubles of so many words behind the first `front` of them.
+pub(crate) fn doubles_behind(words: Words, front: usize) -> usize
+    requires { (Whole words) × (front ≤ nat_abs words.0) }
+    ensures { result ≡ (nat_abs words.0 - front) / 4 }
+{
+    (count(words) - front) / 4
+}
+
+// Words in bytes.
 pub(crate) fn in_bytes(words: Words) -> usize
     requires { Whole words }
     ensures { result ≡ 2 * nat_abs words.0 }
 {
-    let bytes = format::units::to_bytes(words);
-    bytes.0 as usize
+    Bytes::from(words).0 as usize
+}
+
+// The field at a place is a length in words, of so many bytes.
+pub(crate) fn names_bytes(s: &[u8], at: usize, bytes: usize) -> bool
+    requires { at + 4 ≤ length s.now }
+    ensures { result ≡ (held (big_at at s.now) && eqb (2 * big_at at s.now) bytes) }
+{
+    let words = words_at(s, at);
+    words.0 >= 0 && in_bytes(words) == bytes
 }
 
 // The double at a place is no NaN and no infinity: the bits of its exponent are not all ones.
@@ -64,58 +79,24 @@ pub(crate) fn all_finite(s: &[u8], at: usize, n: usize) -> bool
     requires { at + 8 * n ≤ length s.now }
     ensures { result ≡ finites n at s.now }
 {
-    let mut i = at;
-    let mut left = n;
-    while 0 < left {
-        if !is_finite(s, i) {
+    for i in 0..n {
+        if !is_finite(s, at + 8 * i) {
             return false;
         }
-        left -= 1;
-        i += 8;
     }
     true
 }
 
-// The n bytes from a place on are the same in both.
-pub(crate) fn same_bytes(a: &[u8], b: &[u8], at: usize, n: usize) -> bool
-    requires { (at + n ≤ length a.now) × (at + n ≤ length b.now) }
-    ensures { result ≡ same_bytes (field n at a.now) (field n at b.now) }
+// Where a part of p ends, by its number from 0 on: at the next one's start, or the last one at n. The starts stand at byte 52.
+pub(crate) fn end_of(s: &[u8], part: usize, p: usize, n: usize) -> usize
+    requires { (part < p) × (52 + 4 * p ≤ length s.now) × (n < 2 ^ 32) }
+    ensures { Word (end_of (p - (part + 1)) (56 + 4 * part) s.now n) result }
 {
-    let mut i = at;
-    let mut left = n;
-    while 0 < left {
-        if a[i] != b[i] {
-            return false;
-        }
-        left -= 1;
-        i += 1;
+    if part + 1 == p {
+        n
+    } else {
+        little(s, 56 + 4 * part)
     }
-    true
-}
-
-// And they are zeros.
-pub(crate) fn zero_bytes(s: &[u8], at: usize, n: usize) -> bool
-    requires { at + n ≤ length s.now }
-    ensures { result ≡ same_bytes (field n at s.now) (replicate n 0) }
-{
-    let mut i = at;
-    let mut left = n;
-    while 0 < left {
-        if s[i] != 0 {
-            return false;
-        }
-        left -= 1;
-        i += 1;
-    }
-    true
-}
-
-// Where a part ends that so many parts follow: at the next start, which stands at a place, or the last part at n.
-pub(crate) fn end_of(s: &[u8], at: usize, left: usize, n: usize) -> usize
-    requires { (at + 4 * left ≤ length s.now) × (n < 2 ^ 32) }
-    ensures { Word (end_of left at s.now n) result }
-{
-    if left == 0 { n } else { little(s, at) }
 }
 
 // The doubles at two places are equal as IEEE numbers.
@@ -133,8 +114,5 @@ pub(crate) fn closed(s: &[u8], pairs: usize, from: usize, end: usize) -> bool
 {
     let a = pairs + 16 * from;
     let b = pairs + 16 * (end - 1);
-    if same_at(s, a, b) {
-        return same_at(s, a + 8, b + 8);
-    }
-    false
+    same_at(s, a, b) && same_at(s, a + 8, b + 8)
 }

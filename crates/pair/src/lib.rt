@@ -6,174 +6,123 @@ ghost use Rattle.rules.specs.Rules.{null_taken, verdict, walk_from, none_yet};
 ghost use Rattle.pair.specs.Plans.{plan_for, taken_from};
 ghost use Rattle.pair.specs.Verdicts.{said_verdict, Checks};
 
-use plans::{Plan, Planned};
+use plans::Plan;
 
 mod heads;
 mod leaves;
 mod plans;
 
-// Yes, with the totals; or no, with the rule that is broken first and the record that breaks it, 0 for the headers.
-#[derive(Clone, Copy)]
-pub enum Verdict {
-    Yes {
-        records: usize,
-        parts: usize,
-        points: usize,
-    },
-    No {
-        rule: usize,
-        record: usize,
-    },
+// What a pair that is one holds.
+#[derive(Clone, Copy, Debug, PartialEq, Eq)]
+pub struct Totals {
+    pub records: usize,
+    pub parts: usize,
+    pub points: usize,
+}
+
+// The rule that is broken first, by its number, and the record that breaks it, 0 for the headers. A number and no enum: P1 to P17 are
+// document 01's own names, and the interface for C hands the number on.
+#[derive(Clone, Copy, Debug, PartialEq, Eq)]
+pub struct Fault {
+    pub rule: usize,
+    pub record: usize,
 }
 
 // The records behind the headers, by the file's plan and Null's. The first fault in record order, then rule order, ends the walk.
-fn walk(plan: Plan, null: Plan, shp: &[u8], shx: &[u8]) -> Verdict
+fn walk(plan: Plan, null: Plan, shp: &[u8], shx: &[u8]) -> Result<Totals, Fault>
     requires { (plan ≡ plan_for (taken_from plan)) × (null ≡ plan_for null_taken) × (plan.rings ≡ true → plan.parts ≡ true) × (100 ≤ length shp.now) × (100 ≤ length shx.now) }
     ensures { said_verdict result ≡ walk_from (taken_from plan) (drop 100 shp.now) (drop 100 shx.now) 100 none_yet }
 {
-    let mut at: usize = 100;
-    let mut ix: usize = 100;
-    let mut records: usize = 0;
-    let mut parts: usize = 0;
-    let mut points: usize = 0;
+    let mut at = 100;
+    let mut ix = 100;
+    let mut totals = Totals {
+        records: 0,
+        parts: 0,
+        points: 0,
+    };
     'walk: loop {
-        let k = records + 1;
+        let record = totals.records + 1;
         // P17: at the end of the .shp no index entry is left over
         if at >= shp.len() {
             if ix < shx.len() {
-                break 'walk Verdict::No {
-                    rule: 17,
-                    record: k,
-                };
+                break 'walk Err(Fault { rule: 17, record });
             }
-            break 'walk Verdict::Yes {
-                records: records,
-                parts: parts,
-                points: points,
-            };
+            break 'walk Ok(totals);
         }
+        // the bytes from the record on, and the index from its entry on
+        let rest = &shp[at..];
+        let index = &shx[ix..];
         // P9 to P12
-        let fault = heads::head_fault(plan, shp, shx, at, ix, k);
-        if fault != 0 {
-            break 'walk Verdict::No {
-                rule: fault,
-                record: k,
-            };
+        if let Err(fault) = heads::check_head(plan, rest, index, at, record) {
+            break 'walk Err(fault);
         }
         // P13, and all that follows, by the record's own kind
-        let own = plans::own_plan(plan, null, shp, at);
-        if !heads::sized(own, shp, at) {
-            break 'walk Verdict::No {
-                rule: 13,
-                record: k,
-            };
+        let own = plan.or_null(null, rest);
+        if !heads::sized(own, rest) {
+            break 'walk Err(Fault { rule: 13, record });
         }
-        let words = leaves::words_at(shp, at + 4);
-        let p = plans::parts_at(own, shp, at);
-        let n = plans::points_at(own, shp, at);
+        let words = leaves::words_at(rest, 4);
+        let p = own.parts_of(rest);
+        let n = own.points_of(rest);
         // P14: there is a part, the first one starts at point 0, and each has points enough; a multipoint has a point
-        if !plans::begins(own, shp, at, p, n) {
-            break 'walk Verdict::No {
-                rule: 14,
-                record: k,
-            };
+        if !own.begins(rest, p, n) {
+            break 'walk Err(Fault { rule: 14, record });
         }
-        let mut start = at + 56;
-        let mut left = p;
-        let mut cur: usize = 0;
-        'parts: while 0 < left {
-            left -= 1;
-            let end = leaves::end_of(shp, start, left, n);
-            if end < cur + own.least {
-                break 'walk Verdict::No {
-                    rule: 14,
-                    record: k,
-                };
+        let mut begin = 0;
+        for part in 0..p {
+            let end = leaves::end_of(rest, part, p, n);
+            if end < begin + own.least {
+                break 'walk Err(Fault { rule: 14, record });
             }
-            cur = end;
-            start += 4;
+            begin = end;
         }
         // P15: the rings among them are closed
         let front = own.front + 2 * p;
-        let pairs = at + 8 + 2 * front;
-        let mut next = at + 56;
-        let mut rings = plans::rings_in(own, p);
-        let mut from: usize = 0;
-        'rings: while 0 < rings {
-            rings -= 1;
-            let end = leaves::end_of(shp, next, rings, n);
-            if !leaves::closed(shp, pairs, from, end) {
-                break 'walk Verdict::No {
-                    rule: 15,
-                    record: k,
-                };
+        let pairs = 8 + 2 * front;
+        let rings = own.rings_of(p);
+        let mut from = 0;
+        for ring in 0..rings {
+            let end = leaves::end_of(rest, ring, rings, n);
+            if !leaves::closed(rest, pairs, from, end) {
+                break 'walk Err(Fault { rule: 15, record });
             }
             from = end;
-            next += 4;
         }
         // P16: the doubles of the box, and those from the points on
-        let mut corner = at + 12;
-        let mut corners = plans::box_doubles(own);
-        'corners: while 0 < corners {
-            if !leaves::is_finite(shp, corner) {
-                break 'walk Verdict::No {
-                    rule: 16,
-                    record: k,
-                };
+        for corner in 0..own.box_doubles() {
+            if !leaves::is_finite(rest, 12 + 8 * corner) {
+                break 'walk Err(Fault { rule: 16, record });
             }
-            corners -= 1;
-            corner += 8;
         }
-        let mut double = pairs;
-        let mut doubles = plans::point_doubles(words, front);
-        'doubles: while 0 < doubles {
-            if !leaves::is_finite(shp, double) {
-                break 'walk Verdict::No {
-                    rule: 16,
-                    record: k,
-                };
+        for double in 0..leaves::doubles_behind(words, front) {
+            if !leaves::is_finite(rest, pairs + 8 * double) {
+                break 'walk Err(Fault { rule: 16, record });
             }
-            doubles -= 1;
-            double += 8;
         }
         at += 8 + leaves::in_bytes(words);
         ix += 8;
-        records = k;
-        parts += p;
-        points += n;
+        totals = Totals {
+            records: record,
+            parts: totals.parts + p,
+            points: totals.points + n,
+        };
     }
 }
 
 // The headers, and where they are fine the records.
-fn judge(shp: &[u8], shx: &[u8]) -> Verdict
+fn judge(shp: &[u8], shx: &[u8]) -> Result<Totals, Fault>
     ensures { said_verdict result ≡ verdict shp.now shx.now }
 {
-    let front = heads::front_fault(shp, shx);
-    if front != 0 {
-        return Verdict::No {
-            rule: front,
-            record: 0,
-        };
-    }
-    let Planned::Is(plan) = plans::plan_of(fields::le_i32_at(shp, 32)) else {
-        return Verdict::No { rule: 4, record: 0 };
-    };
-    let back = heads::back_fault(shp, shx);
-    if back != 0 {
-        return Verdict::No {
-            rule: back,
-            record: 0,
-        };
-    }
-    let Planned::Is(null) = plans::plan_of(0) else {
-        // which Null is not
-        return Verdict::No { rule: 4, record: 0 };
-    };
+    heads::check_front(shp, shx)?;
+    let plan = plans::plan_of(fields::le_i32_at(shp, 32)).ok_or(Fault { rule: 4, record: 0 })?;
+    heads::check_back(shp, shx)?;
+    // Null is taken: this is no fault
+    let null = plans::plan_of(0).ok_or(Fault { rule: 4, record: 0 })?;
     walk(plan, null, shp, shx)
 }
 
 // The verdict on a .shp and its .shx: by the rules, and by what that means of the shapes in the two files.
-pub fn check_pair(shp: &[u8], shx: &[u8]) -> Verdict
+pub fn check_pair(shp: &[u8], shx: &[u8]) -> Result<Totals, Fault>
     ensures { Checks shp.now shx.now result }
 {
     judge(shp, shx)
