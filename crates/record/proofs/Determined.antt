@@ -5,47 +5,50 @@ use mathlib.Core.List.{List}
 use Prim.Native.Nat.{ℕ}
 use lib.Dec.{eqb}
 use lib.Ieee.{Float}
-use lib.IntN.{nat_abs}
+use lib.IntN.{ℤ, nat_abs}
+use Rattle.std.specs.Prelude.{Option, Result, Ok, Err}
 use Rattle.format.specs.declared.units.Bytes.{Bytes}
 use Rattle.format.specs.Said.{Said, gives, refuses}
 use Rattle.format.proofs.SaidLaws.{value, second, told_one}
-use Rattle.record.specs.declared.Wanted.{Wanted}
-use Rattle.record.specs.declared.RecordAnswer.{RecordAnswer}
-use Rattle.record.specs.declared.RecordAnswer.TheVariants as Is
+use Rattle.record.specs.declared.Record.{Record}
+use Rattle.record.specs.declared.Record.TheVariants as Is
+use Rattle.record.specs.declared.RecordError.{RecordError}
+use Rattle.record.specs.declared.RecordError.TheVariants as Error
 use Rattle.record.specs.Reading.{Shaped, null_shape, point_shape, multipoint_shape, parts_shape, said_record, stored, ReadsRecord}
 
-tell_record : Said Shaped → RecordAnswer
-tell_record (gives null_shape) = Is.Null
-tell_record (gives (point_shape code p)) = Is.Point code p
-tell_record (gives (multipoint_shape code m body)) = Is.Multipoint code m body
-tell_record (gives (parts_shape code m body)) = Is.Parts code m body
+tell_record : Said Shaped → Result Record RecordError
+tell_record (gives null_shape) = Ok Is.Null
+tell_record (gives (point_shape code p)) = Ok (Is.Point code p)
+tell_record (gives (multipoint_shape code m body)) = Ok (Is.Multipoint code m body)
+tell_record (gives (parts_shape code m body)) = Ok (Is.Parts code m body)
 tell_record (refuses n vs) =
-    cond (eqb n 1) (Is.Short (nat_abs (value vs)) (nat_abs (second vs)))
-    (cond (eqb n 3) (Is.Size (nat_abs (value vs)))
-    (cond (eqb n 4) (Is.Unknown (value vs))
-    (cond (eqb n 5) (Is.Mismatch (value vs) (second vs))
-    (cond (eqb n 6) (Is.Room (nat_abs (value vs)) (nat_abs (second vs))) (Is.NotTaken (value vs))))))
+    Err
+    (cond (eqb n 1) (Error.Short (record { at = nat_abs (value vs); present = nat_abs (second vs) }))
+    (cond (eqb n 3) (Error.Size (nat_abs (value vs)))
+    (cond (eqb n 4) (Error.Unknown (value vs))
+    (cond (eqb n 5) (Error.Mismatch (value vs) (second vs))
+    (cond (eqb n 6) (Error.Room (nat_abs (value vs)) (nat_abs (second vs))) (Error.NotTaken (value vs)))))))
 
-pub one_record : (a b : RecordAnswer) → said_record a ≡ said_record b → a ≡ b
+pub one_record : (a b : Result Record RecordError) → said_record a ≡ said_record b → a ≡ b
 unfolding tell_record
 one_record = told_one said_record tell_record back
   where
-    back : (a : RecordAnswer) → tell_record (said_record a) ≡ a
-    back Is.Null = refl
-    back (Is.Point code p) = refl
-    back (Is.Multipoint code m body) = refl
-    back (Is.Parts code m body) = refl
-    back (Is.Short at present) = refl
-    back (Is.Size at) = refl
-    back (Is.Unknown code) = refl
-    back (Is.Mismatch wanted found) = refl
-    back (Is.Room p n) = refl
-    back (Is.NotTaken code) = refl
+    back : (a : Result Record RecordError) → tell_record (said_record a) ≡ a
+    back (Ok Is.Null) = refl
+    back (Ok (Is.Point code p)) = refl
+    back (Ok (Is.Multipoint code m body)) = refl
+    back (Ok (Is.Parts code m body)) = refl
+    back (Err (Error.Short e)) = refl
+    back (Err (Error.Size at)) = refl
+    back (Err (Error.Unknown code)) = refl
+    back (Err (Error.Mismatch wanted found)) = refl
+    back (Err (Error.Room p n)) = refl
+    back (Err (Error.NotTaken code)) = refl
 
-one_store : {A : Type 0} (a b : RecordAnswer) (before x y : List A) (values : Bool → List A) → a ≡ b → x ≡ stored (said_record a) before values → y ≡ stored (said_record b) before values → x ≡ y
-one_store a b before x y values e p q = p ∙ (ap (λ (r : RecordAnswer). stored (said_record r) before values) e ∙ sym q)
+one_store : {A : Type 0} (a b : Result Record RecordError) (before x y : List A) (values : Bool → List A) → a ≡ b → x ≡ stored (said_record a) before values → y ≡ stored (said_record b) before values → x ≡ y
+one_store a b before x y values e p q = p ∙ (ap (λ (r : Result Record RecordError). stored (said_record r) before values) e ∙ sym q)
 
-module _ (wanted : Wanted) (size : Bytes) (s counts : List ℕ) (xs ys zs ms : List Float) (a b : RecordAnswer) (counts₁ counts₂ : List ℕ) (xs₁ xs₂ ys₁ ys₂ zs₁ zs₂ ms₁ ms₂ : List Float) where
+module _ (wanted : Option ℤ) (size : Bytes) (s counts : List ℕ) (xs ys zs ms : List Float) (a b : Result Record RecordError) (counts₁ counts₂ : List ℕ) (xs₁ xs₂ ys₁ ys₂ zs₁ zs₂ ms₁ ms₂ : List Float) where
   pub one_result : ReadsRecord wanted size s counts xs ys zs ms a counts₁ xs₁ ys₁ zs₁ ms₁ → ReadsRecord wanted size s counts xs ys zs ms b counts₂ xs₂ ys₂ zs₂ ms₂ → (a ≡ b) × (counts₁ ≡ counts₂) × (xs₁ ≡ xs₂) × (ys₁ ≡ ys₂) × (zs₁ ≡ zs₂) × (ms₁ ≡ ms₂)
   one_result p q =
       let e : a ≡ b = one_record a b (p.says ∙ sym q.says) in (

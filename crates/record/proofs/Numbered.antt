@@ -5,6 +5,7 @@ use mathlib.Core.Option.{Option, none, some}
 use Prim.Native.Nat.{ℕ}
 use native.Mathlib.Omega.{arith}
 use lib.Dec.{eqb}
+use lib.IntN.{ℤ}
 use lib.ListN.{drop}
 use Rattle.format.specs.declared.kinds.Kind.{Kind}
 use Rattle.format.specs.declared.units.Bytes.{Bytes}
@@ -15,13 +16,12 @@ use Rattle.format.proofs.OrderLaws.{AllNumbered, cond_numbered, first_numbered, 
 use Rattle.multipart.specs.Answers.{counts_of}
 use Rattle.multipart.specs.Body.{body_of}
 use Rattle.multipart.proofs.Numbered.{counts_numbered, body_numbered}
-use Rattle.record.specs.declared.Wanted.{Wanted}
-use Rattle.record.specs.declared.Wanted.TheVariants as Wants
+use Rattle.std.specs.Prelude as Std
 use Rattle.record.specs.Reading.{Shaped, code_in, kind_in, front_tests, is_words, doubles_of, point_of, moved, and_then, has_m, size_right, several_of, by_form, record_of}
 
-front_numbered : (wanted : Wanted) (size : Bytes) (s : List ℕ) → AllNumbered (front_tests {A = Shaped} wanted size s)
-front_numbered Wants.Any size s = omega arith
-front_numbered (Wants.Kind code) size s = omega arith
+front_numbered : (wanted : Std.Option ℤ) (size : Bytes) (s : List ℕ) → AllNumbered (front_tests {A = Shaped} wanted size s)
+front_numbered Std.None size s = omega arith
+front_numbered (Std.Some code) size s = omega arith
 
 -- a refusal whose offset is moved keeps its number
 moved_numbered : {A : Type 0} (said : Said A) → Numbered said → Numbered (moved said)
@@ -58,7 +58,7 @@ module _ (k : Kind) (size : Bytes) (s : List ℕ) where
     form_numbered (some many_points) = several_numbered
     form_numbered (some parts) = several_numbered
 
-pub record_numbered : (wanted : Wanted) (size : Bytes) (s : List ℕ) (counts xs ys zs ms : ℕ) → Numbered (record_of wanted size s counts xs ys zs ms)
+pub record_numbered : (wanted : Std.Option ℤ) (size : Bytes) (s : List ℕ) (counts xs ys zs ms : ℕ) → Numbered (record_of wanted size s counts xs ys zs ms)
 unfolding record_of
 record_numbered wanted size s counts xs ys zs ms =
     first_numbered (front_tests wanted size s) _ (front_numbered wanted size s) (form_numbered (kind_in s) size s counts xs ys zs ms (form_at (code_in s)))

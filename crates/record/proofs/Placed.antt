@@ -22,8 +22,7 @@ use Rattle.format.proofs.Placed.{ValuesPlaced, Placed, elsewhere, size_placed, t
 use Rattle.multipart.specs.Answers.{counts_of}
 use Rattle.multipart.specs.Body.{body_width, body_of}
 use Rattle.multipart.proofs.Placed.{counts_placed, body_placed}
-use Rattle.record.specs.declared.Wanted.{Wanted}
-use Rattle.record.specs.declared.Wanted.TheVariants as Wants
+use Rattle.std.specs.Prelude as Std
 use Rattle.record.specs.Reading.{Shaped, code_in, kind_in, is_taken, wanted_tests, mismatch_tests, found_tests, is_words, doubles_of, point_of, ahead, moved, and_then, has_m, size_right, several_of, by_form, record_of, width_by, content_width}
 
 -- ---- behind the kind's field, in a content of a form
@@ -94,17 +93,17 @@ module _ (k : Kind) (size : Bytes) (s : List ℕ) (h : 4 ≤ length s) where
 -- ---- in front of it
 
 module _ (width : ℕ → ℕ) (s : List ℕ) (a : Said Shaped) where
-  mismatch_placed : (wanted : Wanted) (found : ℤ) → Placed width s a → Placed width s (first (mismatch_tests wanted found) a)
-  mismatch_placed Wants.Any found p = p
-  mismatch_placed (Wants.Kind code) found p = test_placed width s (same_int code found) a _ (elsewhere width s 5 _ refl) (λ e. p)
+  mismatch_placed : (wanted : Std.Option ℤ) (found : ℤ) → Placed width s a → Placed width s (first (mismatch_tests wanted found) a)
+  mismatch_placed Std.None found p = p
+  mismatch_placed (Std.Some code) found p = test_placed width s (same_int code found) a _ (elsewhere width s 5 _ refl) (λ e. p)
 
-  wanted_placed : (wanted : Wanted) → Placed width s a → Placed width s (first (wanted_tests wanted) a)
-  wanted_placed Wants.Any p = p
-  wanted_placed (Wants.Kind code) p =
+  wanted_placed : (wanted : Std.Option ℤ) → Placed width s a → Placed width s (first (wanted_tests wanted) a)
+  wanted_placed Std.None p = p
+  wanted_placed (Std.Some code) p =
       test_placed width s (known code) _ _ (elsewhere width s 4 _ refl)
       (λ i. test_placed width s (is_taken code && not (same_int code (pos 0))) a _ (elsewhere width s 9 _ refl) (λ j. p))
 
-module _ (form : Option Form) (wanted : Wanted) (size : Bytes) (s : List ℕ) (a : Said Shaped) where
+module _ (form : Option Form) (wanted : Std.Option ℤ) (size : Bytes) (s : List ℕ) (a : Said Shaped) where
   abbrev last : List (Bool × Said Shaped)
   last = (is_taken (code_in s), not_taken (code_in s)) ∷ []
 
@@ -121,7 +120,7 @@ module _ (form : Option Form) (wanted : Wanted) (size : Bytes) (s : List ℕ) (a
       (mismatch_placed w s (first last a) wanted (code_in s)
       (test_placed w s (is_taken (code_in s)) a _ (elsewhere w s 9 _ refl) (λ k. p h))))))
 
-pub record_placed : (wanted : Wanted) (size : Bytes) (s : List ℕ) (counts xs ys zs ms : ℕ) → Placed (content_width (form_at (code_in s)) s) s (record_of wanted size s counts xs ys zs ms)
+pub record_placed : (wanted : Std.Option ℤ) (size : Bytes) (s : List ℕ) (counts xs ys zs ms : ℕ) → Placed (content_width (form_at (code_in s)) s) s (record_of wanted size s counts xs ys zs ms)
 unfolding record_of
 record_placed wanted size s counts xs ys zs ms =
     let form = form_at (code_in s) in

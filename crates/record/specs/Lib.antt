@@ -1,3 +1,4 @@
--- Document 01's "Reading a record". Steps serves the contracts of private functions alone.
+-- Document 01's "Reading a record". Steps and Behind serve the contracts of private functions alone.
+pub mod Behind
 pub mod Reading
 pub mod Steps

@@ -1,5 +1,6 @@
 -- Reading a record from its content and a size in bytes, with a wanted kind or none: the order of refusals, and what is read.
-use Rattle.std.specs.Prelude.{◌≡◌, Bool, true, false, cond, ◌&&◌, ◌||◌, not, List, [], ◌∷◌, ◌++◌, ℕ, ◌+◌, ◌*◌, ◌-◌, eqb, leb, Float, ℤ, pos, ◌+ℤ◌, ◌-ℤ◌, length, drop}
+use Rattle.std.specs.Prelude.{◌≡◌, Bool, true, false, cond, ◌&&◌, ◌||◌, not, List, [], ◌∷◌, ◌++◌, ℕ, ◌+◌, ◌*◌, ◌-◌, eqb, leb, Float, ℤ, pos, ◌+ℤ◌, ◌-ℤ◌, length, drop, Result, Ok, Err}
+use Rattle.std.specs.Prelude as Std
 use Rattle.std.proofs.Math.Option.{Option, none, some}
 use Rattle.std.specs.Float.{binary64}
 use Rattle.std.specs.Float.Ieee.{of_int}
@@ -14,13 +15,14 @@ use Rattle.format.specs.Said.{Said, gives, refuses, short, wrong_size, unknown, 
 use Rattle.format.specs.Shapes.{there}
 use Rattle.format.specs.Units.{same_int, in_i32}
 use Rattle.multipart.specs.declared.Body.{Body}
-use Rattle.multipart.specs.Answers.{Two, counts_of}
+use Rattle.multipart.specs.declared.Counts.{Counts}
+use Rattle.multipart.specs.Answers.{counts_of}
 use Rattle.multipart.specs.Body.{body_width, body_of, counts_in, x_in, y_in, z_in, m_in}
-use Rattle.record.specs.declared.Wanted.{Wanted}
-use Rattle.record.specs.declared.Wanted.TheVariants as Wants
 use Rattle.record.specs.declared.Point.{Point}
-use Rattle.record.specs.declared.RecordAnswer.{RecordAnswer}
-use Rattle.record.specs.declared.RecordAnswer.TheVariants as Is
+use Rattle.record.specs.declared.Record.{Record}
+use Rattle.record.specs.declared.Record.TheVariants as Is
+use Rattle.record.specs.declared.RecordError.{RecordError}
+use Rattle.record.specs.declared.RecordError.TheVariants as Error
 
 -- what is read: nothing, a point, or the body of a multipoint or of parts with whether it has m
 pub data Shaped : Type 0 where
@@ -45,16 +47,16 @@ is_taken code = there (form_at code)
 -- ---- the tests in front of the shape
 
 -- a wanted kind is known and taken; for a typed read 0 is not
-abbrev pub wanted_tests : {A : Type 0} → Wanted → List (Bool × Said A)
-wanted_tests Wants.Any = []
-wanted_tests (Wants.Kind code) = (known code, unknown code) ∷ (is_taken code && not (same_int code (pos 0)), not_taken code) ∷ []
+abbrev pub wanted_tests : {A : Type 0} → Std.Option ℤ → List (Bool × Said A)
+wanted_tests Std.None = []
+wanted_tests (Std.Some code) = (known code, unknown code) ∷ (is_taken code && not (same_int code (pos 0)), not_taken code) ∷ []
 
-abbrev pub mismatch_tests : {A : Type 0} → Wanted → ℤ → List (Bool × Said A)
-mismatch_tests Wants.Any found = []
-mismatch_tests (Wants.Kind code) found = (same_int code found, mismatch code found) ∷ []
+abbrev pub mismatch_tests : {A : Type 0} → Std.Option ℤ → ℤ → List (Bool × Said A)
+mismatch_tests Std.None found = []
+mismatch_tests (Std.Some code) found = (same_int code found, mismatch code found) ∷ []
 
 -- the kind's field; size minus 4 must not leave i32; mismatch; not taken
-abbrev pub found_tests : {A : Type 0} → Wanted → Bytes → List ℕ → List (Bool × Said A)
+abbrev pub found_tests : {A : Type 0} → Std.Option ℤ → Bytes → List ℕ → List (Bool × Said A)
 found_tests wanted size s =
     field_at 4 0 s short
     ∷ (known (code_in s), unknown (code_in s))
@@ -62,7 +64,7 @@ found_tests wanted size s =
     ∷ (mismatch_tests wanted (code_in s) ++ ((is_taken (code_in s), not_taken (code_in s)) ∷ []))
 
 -- the wanted kind before them
-abbrev pub front_tests : {A : Type 0} → Wanted → Bytes → List ℕ → List (Bool × Said A)
+abbrev pub front_tests : {A : Type 0} → Std.Option ℤ → Bytes → List ℕ → List (Bool × Said A)
 front_tests wanted size s = wanted_tests wanted ++ found_tests wanted size s
 
 -- ---- the forms
@@ -103,10 +105,10 @@ abbrev pub and_then : {A B : Type 0} → Said A → (A → Said B) → Said B
 and_then (gives a) f = f a
 and_then (refuses n values) f = refuses n values
 
-abbrev pub has_m : Kind → Bytes → Two → Bool
+abbrev pub has_m : Kind → Bytes → Counts → Bool
 has_m k size two = k.m && is_words size (content_words (several_form k.parts) k.z true two.parts two.points)
 
-abbrev pub size_right : Kind → Bytes → Two → Bool
+abbrev pub size_right : Kind → Bytes → Counts → Bool
 size_right k size two = is_words size (content_words (several_form k.parts) k.z false two.parts two.points) || has_m k size two
 
 -- a body, by whether it has parts
@@ -132,7 +134,7 @@ by_form (some many_points) k size s counts xs ys zs ms = several_of k size s cou
 by_form (some parts) k size s counts xs ys zs ms = several_of k size s counts xs ys zs ms
 
 -- what reading a record says, with stores of these lengths
-unfoldable pub record_of : Wanted → Bytes → List ℕ → ℕ → ℕ → ℕ → ℕ → ℕ → Said Shaped
+unfoldable pub record_of : Std.Option ℤ → Bytes → List ℕ → ℕ → ℕ → ℕ → ℕ → ℕ → Said Shaped
 record_of wanted size s counts xs ys zs ms =
     first (front_tests wanted size s) (by_form (form_at (code_in s)) (kind_in s) size s counts xs ys zs ms)
 
@@ -149,17 +151,20 @@ content_width form s at = cond (leb 4 at) (width_by form (drop 4 s) (at - 4)) 4
 
 -- ---- the answer in document 01's terms, and the stores
 
-abbrev pub said_record : RecordAnswer → Said Shaped
-said_record Is.Null = gives null_shape
-said_record (Is.Point code p) = gives (point_shape code p)
-said_record (Is.Multipoint code m body) = gives (multipoint_shape code m body)
-said_record (Is.Parts code m body) = gives (parts_shape code m body)
-said_record (Is.Short at present) = short at present
-said_record (Is.Size at) = wrong_size at
-said_record (Is.Unknown code) = unknown code
-said_record (Is.Mismatch wanted found) = mismatch wanted found
-said_record (Is.Room p n) = room p n
-said_record (Is.NotTaken code) = not_taken code
+abbrev pub said_error : {A : Type 0} → RecordError → Said A
+said_error (Error.Short e) = short e.at e.present
+said_error (Error.Size at) = wrong_size at
+said_error (Error.Unknown code) = unknown code
+said_error (Error.Mismatch wanted found) = mismatch wanted found
+said_error (Error.Room p n) = room p n
+said_error (Error.NotTaken code) = not_taken code
+
+abbrev pub said_record : Result Record RecordError → Said Shaped
+said_record (Ok Is.Null) = gives null_shape
+said_record (Ok (Is.Point code p)) = gives (point_shape code p)
+said_record (Ok (Is.Multipoint code m body)) = gives (multipoint_shape code m body)
+said_record (Ok (Is.Parts code m body)) = gives (parts_shape code m body)
+said_record (Err e) = said_error e
 
 -- what goes into a store: only several points have any
 abbrev pub stored : {A : Type 0} → Said Shaped → List A → (Bool → List A) → List A
@@ -169,7 +174,7 @@ stored (gives (multipoint_shape code m body)) store values = sets store 0 (value
 stored (gives (parts_shape code m body)) store values = sets store 0 (values m)
 stored (refuses n vs) store values = store
 
-pub record ReadsRecord (wanted : Wanted) (size : Bytes) (s counts : List ℕ) (xs ys zs ms : List Float) (r : RecordAnswer) (counts' : List ℕ) (xs' ys' zs' ms' : List Float) : Type 0 where
+pub record ReadsRecord (wanted : Std.Option ℤ) (size : Bytes) (s counts : List ℕ) (xs ys zs ms : List Float) (r : Result Record RecordError) (counts' : List ℕ) (xs' ys' zs' ms' : List Float) : Type 0 where
   pub says : said_record r ≡ record_of wanted size s (length counts) (length xs) (length ys) (length zs) (length ms)
   pub counts_are : counts' ≡ stored (said_record r) counts (λ m. counts_in (kind_in s).parts (drop 4 s))
   pub x_are : xs' ≡ stored (said_record r) xs (λ m. x_in (kind_in s).parts (drop 4 s))

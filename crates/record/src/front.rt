@@ -1,100 +1,66 @@
 // What is judged before a record's shape: the wanted kind, the kind's field, the size, and whether the kind is wanted and taken.
+ghost use Rattle.std.specs.Prelude.{◌≡◌, IfOk};
+ghost use Rattle.record.specs.Behind.{Begins};
 ghost use Rattle.record.specs.Reading.{wanted_tests, mismatch_tests, found_tests, front_tests};
-ghost use Rattle.record.specs.Steps.{Judges, Fronts};
+ghost use Rattle.record.specs.Steps.{Judges};
 
-use crate::{RecordAnswer, Wanted};
-use format::kinds::{Found, Kind};
-use format::lengths::{Content, Lengths};
+use crate::RecordError;
+use crate::content::Content;
 use format::units::Bytes;
 
-#[derive(Clone, Copy)]
-pub enum Judged {
-    On,
-    Refused(RecordAnswer),
-}
-
-// The content's kind with its lengths, or a refusal.
-#[derive(Clone, Copy)]
-pub enum Front {
-    On(Kind, Lengths),
-    Refused(RecordAnswer),
-}
-
 // The wanted kind by itself: a known one, and one that a typed read takes.
-fn judge_code(code: i32) -> Judged
-    ensures { Judges (wanted_tests (Wanted.Kind code)) result }
-{
-    match format::lengths::lengths_of(code) {
-        Content::Unknown(_) => Judged::Refused(RecordAnswer::Unknown(code)),
-        Content::NotTaken(_) => Judged::Refused(RecordAnswer::NotTaken(code)),
-        Content::Taken(_) => {
-            if code == 0 {
-                return Judged::Refused(RecordAnswer::NotTaken(code));
-            }
-            Judged::On
-        }
-    }
-}
-
-fn judge_wanted(wanted: Wanted) -> Judged
+fn judge_wanted(wanted: Option<i32>) -> Result<(), RecordError>
     ensures { Judges (wanted_tests wanted) result }
 {
-    match wanted {
-        Wanted::Any => Judged::On,
-        Wanted::Kind(code) => judge_code(code),
+    let Some(code) = wanted else {
+        return Ok(());
+    };
+    format::lengths::lengths_of(code)?;
+    if code == 0 {
+        return Err(RecordError::NotTaken(code));
     }
+    Ok(())
 }
 
 // Whether the found kind is the wanted one.
-fn judge_match(wanted: Wanted, found: i32) -> Judged
+fn judge_match(wanted: Option<i32>, found: i32) -> Result<(), RecordError>
     ensures { Judges (mismatch_tests wanted found) result }
 {
     match wanted {
-        Wanted::Any => Judged::On,
-        Wanted::Kind(code) => {
-            if code == found {
-                Judged::On
-            } else {
-                Judged::Refused(RecordAnswer::Mismatch(code, found))
-            }
-        }
+        Some(wanted) if wanted != found => Err(RecordError::Mismatch { wanted, found }),
+        _ => Ok(()),
     }
 }
 
 // What follows the wanted kind.
-fn judge_found(s: &[u8], size: Bytes, wanted: Wanted) -> Front
-    ensures { Fronts (found_tests wanted size s.now) size s.now result }
+fn judge_found(s: &[u8], size: Bytes, wanted: Option<i32>) -> Result<Content, RecordError>
+    ensures tests { Judges (found_tests wanted size s.now) result }
+    ensures begins { IfOk result (λ c. Begins s.now size c) }
 {
-    if s.len() < 4 {
-        return Front::Refused(RecordAnswer::Short(0, s.len()));
+    let code = fields::checked::le_i32(s, 0)?;
+    let kind = format::kinds::find_kind(code)?;
+    // size minus 4 is an i32
+    if size.0 < -0x7fff_fffc || 0x8000_0003 < size.0 {
+        return Err(RecordError::Size(0));
     }
-    let code = fields::le_i32_at(s, 0);
-    let Found::Is(kind) = format::kinds::find_kind(code) else {
-        return Front::Refused(RecordAnswer::Unknown(code));
-    };
-    let bytes = size.0;
-    if bytes < -0x7fff_fffc {
-        return Front::Refused(RecordAnswer::Size(0));
-    }
-    if 0x8000_0003 < bytes {
-        return Front::Refused(RecordAnswer::Size(0));
-    }
-    if let Judged::Refused(r) = judge_match(wanted, code) {
-        return Front::Refused(r);
-    }
-    match format::lengths::lengths_of(code) {
-        Content::Taken(lengths) => Front::On(kind, lengths),
-        Content::NotTaken(_) => Front::Refused(RecordAnswer::NotTaken(code)),
-        // which a kind that was found is not
-        Content::Unknown(_) => Front::Refused(RecordAnswer::Unknown(code)),
-    }
+    judge_match(wanted, code)?;
+    let lengths = format::lengths::lengths_of(code)?;
+    Ok(Content {
+        code,
+        kind,
+        lengths,
+        size,
+    })
 }
 
-pub(crate) fn judge_front(s: &[u8], size: Bytes, wanted: Wanted) -> Front
-    ensures { Fronts (front_tests wanted size s.now) size s.now result }
+pub(crate) fn judge_front(
+    s: &[u8],
+    size: Bytes,
+    wanted: Option<i32>,
+) -> Result<Content, RecordError>
+    ensures tests { Judges (front_tests wanted size s.now) result }
+    ensures begins { IfOk result (λ c. Begins s.now size c) }
 {
-    match judge_wanted(wanted) {
-        Judged::Refused(r) => Front::Refused(r),
-        Judged::On => judge_found(s, size, wanted),
-    }
+    judge_wanted(wanted)?;
+    judge_found(s, size, wanted)
 }

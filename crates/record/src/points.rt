@@ -1,28 +1,27 @@
 // Points: the size is the kind's, and X, Y, Z if any and M if any are each a field.
 ghost use Rattle.std.specs.Prelude.{◌≡◌, cond, ◌+◌, ◌*◌, ◌≤◌, length};
-ghost use Rattle.format.specs.Lengths.{one_point, lengths_for};
-ghost use Rattle.record.specs.Reading.{code_in, point_in, doubles_of, point_of};
-ghost use Rattle.record.specs.Steps.{Held, double_if, Answers};
+ghost use Rattle.std.proofs.Math.Option.{some};
+ghost use Rattle.format.specs.Lengths.{one_point, form_of};
+ghost use Rattle.record.specs.Behind.{Begins};
+ghost use Rattle.record.specs.Reading.{point_in, doubles_of, point_of};
+ghost use Rattle.record.specs.Steps.{double_if, said_point};
 
-use crate::{Point, RecordAnswer, sizes};
+use crate::content::Content;
+use crate::{Point, RecordError, sizes};
 use format::kinds::Kind;
-use format::lengths::Lengths;
-use format::units::Bytes;
+use format::shapes::Short;
+use multipart::Counts;
+
+const ONE_POINT: Counts = Counts {
+    parts: 0,
+    points: 1,
+};
 
 // Where the last double ends.
 fn point_end(k: Kind) -> usize
     ensures { result ≡ 4 + 8 * doubles_of k }
 {
-    if k.z {
-        if k.m {
-            return 36;
-        }
-        return 28;
-    }
-    if k.m {
-        return 28;
-    }
-    20
+    4 + 8 * (2 + usize::from(k.z) + usize::from(k.m))
 }
 
 // The place of M, behind Z if that is there.
@@ -45,30 +44,28 @@ fn point_at(s: &[u8], k: Kind) -> Point
     requires { 4 + 8 * doubles_of k ≤ length s.now }
     ensures { result ≡ point_in k s.now }
 {
-    let x = fields::le_f64_at(s, 4);
-    let y = fields::le_f64_at(s, 12);
-    let z = double_if(s, k.z, 20);
-    let m = double_if(s, k.m, m_at(k.z));
     Point {
-        x: x,
-        y: y,
-        z: z,
-        m: m,
+        x: fields::le_f64_at(s, 4),
+        y: fields::le_f64_at(s, 12),
+        z: double_if(s, k.z, 20),
+        m: double_if(s, k.m, m_at(k.z)),
     }
 }
 
-pub(crate) fn read_point(s: &[u8], code: i32, k: Kind, l: Lengths, size: Bytes) -> RecordAnswer
-    requires { (4 ≤ length s.now) × (Held size) × (code ≡ code_in s.now) × (l ≡ lengths_for k one_point) }
-    ensures { Answers (point_of k size s.now) result }
+pub(crate) fn read_point(s: &[u8], content: Content) -> Result<Point, RecordError>
+    requires begins { Begins s.now content.size content }
+    requires of_points { form_of content.kind ≡ some one_point }
+    ensures { said_point content.code result ≡ point_of content.kind content.size s.now }
 {
-    let with = l.with;
-    if !sizes::has_words(size, with, 0, 1) {
-        return RecordAnswer::Size(0);
+    if !sizes::has_words(content.size, content.lengths.with, ONE_POINT) {
+        return Err(RecordError::Size(0));
     }
-    let n = s.len();
-    if n < point_end(k) {
-        let rest = n - 4;
-        return RecordAnswer::Short(4 + rest / 8 * 8, rest % 8);
+    if s.len() < point_end(content.kind) {
+        let rest = s.len() - 4;
+        return Err(RecordError::Short(Short {
+            at: 4 + rest / 8 * 8,
+            present: rest % 8,
+        }));
     }
-    RecordAnswer::Point(code, point_at(s, k))
+    Ok(point_at(s, content.kind))
 }

@@ -1,47 +1,31 @@
 // Sizes in bytes against the table's formulas in words.
 ghost use Rattle.std.specs.Prelude.{◌≡◌};
-ghost use Rattle.format.specs.Lengths.{several_form, lengths_for, formula_words};
+ghost use Rattle.std.proofs.Math.Option.{some};
+ghost use Rattle.format.specs.Lengths.{several_form, form_of, formula_words};
 ghost use Rattle.record.specs.Reading.{is_words};
-ghost use Rattle.record.specs.Steps.{Held, two, Sizes};
+ghost use Rattle.record.specs.Steps.{Held, Sizes};
 
-use format::kinds::Kind;
-use format::lengths::{Formula, Lengths};
-use format::units::{Bytes, InWords};
-
-// Which of the two formulas of a kind with several points a size is.
-#[derive(Clone, Copy)]
-pub enum Sized {
-    Without,
-    With,
-    Neither,
-}
+use crate::content::Content;
+use format::lengths::{Formula, comes_to};
+use format::units::{Bytes, Words};
+use multipart::Counts;
 
 // Whether a size is what a formula comes to.
-pub(crate) fn has_words(size: Bytes, f: Formula, p: u32, n: u32) -> bool
+pub(crate) fn has_words(size: Bytes, f: Formula, counts: Counts) -> bool
     requires { Held size }
-    ensures { result ≡ is_words size (formula_words f p n) }
+    ensures { result ≡ is_words size (formula_words f counts.parts counts.points) }
 {
-    match format::units::to_words(size) {
-        InWords::Is(words) => format::lengths::comes_to(f, p, n, words),
-        InWords::Not => false,
-    }
+    let Counts { parts, points } = counts;
+    Words::try_from(size).is_ok_and(|words| comes_to(f, parts, points, words))
 }
 
-// With m only where the kind has m.
-pub(crate) fn judge_size(size: Bytes, k: Kind, l: Lengths, p: u32, n: u32) -> Sized
-    requires { (Held size) × (l ≡ lengths_for k (several_form k.parts)) }
-    ensures { Sizes k size (two p n) result }
+// Whether the size of several points has m in it, with m only where the kind has m; none, where it is no size of theirs.
+pub(crate) fn judge_m(content: Content, counts: Counts) -> Option<bool>
+    requires { form_of content.kind ≡ some (several_form content.kind.parts) }
+    ensures { Sizes content.kind content.size counts result }
 {
-    let with = l.with;
-    let without = l.without;
-    if has_words(size, with, p, n) {
-        if k.m {
-            return Sized::With;
-        }
-        return Sized::Without;
+    if has_words(content.size, content.lengths.with, counts) {
+        return Some(content.kind.m);
     }
-    if has_words(size, without, p, n) {
-        return Sized::Without;
-    }
-    Sized::Neither
+    has_words(content.size, content.lengths.without, counts).then_some(false)
 }
