@@ -6,6 +6,7 @@ use native.Mathlib.Omega.{arith}
 use lib.IntN.{pos}
 use lib.ListN.{length}
 use borrow.Author.Tests.{le-leb, lt-ltb}
+use Rattle.std.specs.Prelude.{None}
 use Rattle.format.specs.declared.kinds.Kind.{Kind}
 use Rattle.format.specs.Encoding.{content, shape_bytes, shape_words}
 use Rattle.format.specs.Kinds.{kind_at}
@@ -17,7 +18,6 @@ use Rattle.format.proofs.KindLaws.{code-held, known_some}
 use Rattle.format.proofs.Laid.{length-shape, length-content, content-code}
 use Rattle.rules.specs.Meaning.{TakenKind}
 use Rattle.multipart.proofs.StartLaws.{difference}
-use Rattle.record.specs.declared.Wanted.TheVariants as Wants
 use Rattle.record.specs.Reading.{Shaped, code_in, front_tests, by_form, record_of}
 use Rattle.record.proofs.ShapeLaws.{by-kind}
 use Rattle.readback.specs.ReadBack.{Small, size}
@@ -30,7 +30,7 @@ module _ (k : Kind) (s : Shape) (t : TakenKind k) where
   kind-back = rw code-back t.in_table
 
   module _ (o : OfKind k s) (small : Small s) where
-    front_pass : (a : Said Shaped) → first (front_tests Wants.Any (size s) (content k s)) a ≡ a
+    front_pass : (a : Said Shaped) → first (front_tests None (size s) (content k s)) a ≡ a
     front_pass a =
         let w : 2 * shape_words s ≡ 4 + length (shape_bytes s) = omega (arith, length-shape k s o) in
         let h : length (shape_bytes s) < 2 ^ 31 = omega arith in
@@ -45,5 +45,5 @@ module _ (k : Kind) (s : Shape) (t : TakenKind k) where
         )
 
     pub read_as : (counts xs ys zs ms : ℕ)
-        → record_of Wants.Any (size s) (content k s) counts xs ys zs ms ≡ by_form (form_of k) k (size s) (content k s) counts xs ys zs ms
-    read_as counts xs ys zs ms = sym (by-kind Wants.Any (size s) (content k s) k counts xs ys zs ms front_pass kind-back)
+        → record_of None (size s) (content k s) counts xs ys zs ms ≡ by_form (form_of k) k (size s) (content k s) counts xs ys zs ms
+    read_as counts xs ys zs ms = sym (by-kind None (size s) (content k s) k counts xs ys zs ms front_pass kind-back)

@@ -18,7 +18,7 @@ use Rattle.format.proofs.Laid.{several-words, length-shape}
 use Rattle.format.proofs.MultipointStands.{box_stands, points_stand, doubles_stand}
 use Rattle.format.proofs.Places.{Stands, all_behind}
 use Rattle.format.proofs.Runs.{i32_back}
-use Rattle.multipart.specs.declared.judge.Walk.TheVariants.{On}
+use Rattle.std.specs.Prelude.{Ok}
 use Rattle.multipart.specs.Answers.{counts_of}
 use Rattle.multipart.specs.Body.{counts_in}
 use Rattle.multipart.specs.Walks.{PairsWalk}
@@ -53,7 +53,7 @@ module _ (k : Kind) (s : Multipoint) (o : MultipointOf k s) (v : Held (multipoin
   number_is : le_i32 32 b ≡ pos n
   number_is = i32_back n 32 b (omega (arith, words)) (points_stand s 0 b whole)
 
-  found : PairsWalk false b (On n)
+  found : PairsWalk false b (Ok n)
   found = points_found b n (ap nat_abs (sym number_is)) (omega (arith, size))
 
   pub counts_are : counts_in false b ≡ []

@@ -18,7 +18,7 @@ use Rattle.format.proofs.Laid.{several-words, length-shape}
 use Rattle.format.proofs.PartsStand.{box_stands, parts_stand, points_stand, starts_stand, doubles_stand}
 use Rattle.format.proofs.Places.{Stands, all_behind}
 use Rattle.format.proofs.Runs.{run, i32_back}
-use Rattle.multipart.specs.declared.judge.Walk.TheVariants.{On}
+use Rattle.std.specs.Prelude.{Ok}
 use Rattle.multipart.specs.Answers.{counts_of}
 use Rattle.multipart.specs.Body.{parts_in, counts_in}
 use Rattle.multipart.specs.Walks.{PairsWalk}
@@ -79,9 +79,9 @@ module _ (k : Kind) (s : Parts) (o : PartsOf k s) (v : Held (parted s)) (small :
   parts_are : parts s ≡ parts_in true b
   parts_are = ap nat_abs (sym parts_is)
 
-  found : PairsWalk true b (On (points s))
+  found : PairsWalk true b (Ok (points s))
   found =
-      parts_found b (parts s) (omega (arith, size)) parts_are (omega (arith, size)) (pos (points s)) (On (points s)) (sym number_is)
+      parts_found b (parts s) (omega (arith, size)) parts_are (40 + 4 * parts s) (refl, omega (arith, size)) (pos (points s)) (Ok (points s)) (sym number_is)
       (StartLaws.parts_laid s.parts b points_held at_starts (omega (arith, size)))
 
   pub counts_are : counts_in true b ≡ map length s.parts

@@ -15,7 +15,8 @@ use Rattle.format.specs.Shapes.{Point, BoxXY, Measure, Shape, null, point, multi
 use Rattle.format.proofs.Equations.{words-multipoint, words-parted}
 use Rattle.format.proofs.Laid.{content-behind}
 use Rattle.format.proofs.LengthLaws.{form_flags, form-parts}
-use Rattle.multipart.specs.Answers.{Two, counts_of}
+use Rattle.multipart.specs.declared.Counts.{Counts}
+use Rattle.multipart.specs.Answers.{counts_of}
 use Rattle.record.specs.Reading.{several_shape, has_m, size_right, several_of}
 use Rattle.record.proofs.ShapeLaws
 use Rattle.rules.specs.Meaning.{TakenKind}

@@ -1,5 +1,5 @@
 -- What reading gives for the paper's encoding of a shape: that shape, m raised.
-use Rattle.std.specs.Prelude.{◌≡◌, Bool, true, false, ℕ, ◌+◌, ◌*◌, ◌-◌, ◌^◌, ◌≤◌, ◌<◌, Float, pos, length, get_or, drop}
+use Rattle.std.specs.Prelude.{◌≡◌, Bool, true, false, ℕ, ◌+◌, ◌*◌, ◌-◌, ◌^◌, ◌≤◌, ◌<◌, Float, pos, length, get_or, drop, None}
 use mathlib.Core.List.{List, [], map, flatten}
 use Rattle.std.proofs.Math.Option.{Option, none, some}
 use Rattle.std.specs.Float.{binary64}
@@ -16,7 +16,6 @@ use Rattle.multipart.specs.declared.Range.{Range}
 use Rattle.multipart.specs.Body.{no_range, raised, counts_in, x_in, y_in, z_in, m_in}
 use Rattle.rules.specs.Meaning.{TakenKind, FileOf}
 use Rattle.meaning.specs.Consequences.{offset_of, extent_of}
-use Rattle.record.specs.declared.Wanted.TheVariants as Wants
 use Rattle.record.specs.Reading.{Shaped, null_shape, point_shape, multipoint_shape, parts_shape, code_in, record_of}
 use Rattle.readback.specs.Held.{Held}
 
@@ -89,7 +88,7 @@ StoresShape (parted s) bytes = StoresPoints true (map length s.parts) (flatten s
 -- Reading these bytes with this size and no wanted kind finds the kind and gives the shape, where the stores have room for it.
 pub record ReadsShape (k : Kind) (s : Shape) (size : Bytes) (bytes : List ℕ) : Type 0 where
   pub kind_is : kind_at (code_in bytes) ≡ some k
-  pub answer : (counts xs ys zs ms : ℕ) → Roomy s counts xs ys zs ms → record_of Wants.Any size bytes counts xs ys zs ms ≡ gives (shaped_as k s)
+  pub answer : (counts xs ys zs ms : ℕ) → Roomy s counts xs ys zs ms → record_of None size bytes counts xs ys zs ms ≡ gives (shaped_as k s)
   pub stores : StoresShape s bytes
 
 -- ---- the encoding of a shape of a taken kind, whose doubles have 64 bits each, as a well-formed one has, and whose content has at most 2,147,483,647 bytes
