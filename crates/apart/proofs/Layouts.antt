@@ -9,12 +9,13 @@ use lib.Ieee.{Float}
 use lib.ListN.{length}
 use lib.Seq.{sets}
 use borrow.Author.Tests.{eq-eqb, ne_eqb, eqb-true, eqb-false}
+use Rattle.std.specs.Prelude.{Result}
 use Rattle.format.specs.Encoding.{shape_bytes}
 use Rattle.format.specs.Said.{gives, tables, long, room_bytes, unless_refused}
 use Rattle.format.specs.Shapes.{Point, Shape, multipoint, parted}
 use Rattle.format.proofs.OrderLaws.{both_true}
 use Rattle.header.specs.declared.bbox.BBoxZ.{BBoxZ}
-use Rattle.layouts.specs.declared.LayoutAnswer.{LayoutAnswer}
+use Rattle.layouts.specs.declared.LayoutError.{LayoutError}
 use Rattle.layouts.specs.Answers.{agree, body_size, layout_of, said_layout, WritesBody}
 use Rattle.layouts.specs.Tables.{bits, points_of, split_by, measure_of, box_of, several_of, points_lent}
 use Rattle.layouts.proofs.JudgeLaws.{layout_is}
@@ -124,14 +125,14 @@ module _ (parts z m : Bool) (counts : List ℕ) (xy zs ms : List Float) where
 -- ---- the answer and the output
 
 module _ (parts z m : Bool) (b : BBoxZ) (counts : List ℕ) where
-  pub body_apart : (xy zs ms : List Float) (out : List ℕ) (r : LayoutAnswer) (out' : List ℕ) → Old.WritesBody parts z m b counts xy zs ms out r out' → WritesBody parts z m b counts (all_x xy) (all_y xy) zs ms out r out'
+  pub body_apart : (xy zs ms : List Float) (out : List ℕ) (r : Result ℕ LayoutError) (out' : List ℕ) → Old.WritesBody parts z m b counts xy zs ms out r out' → WritesBody parts z m b counts (all_x xy) (all_y xy) zs ms out r out'
   body_apart xy zs ms out r out' h =
       record {
         says = h.says ∙ layout_apart parts z m counts xy zs ms (length out);
         out_is = h.out_is ∙ ap (λ (s : Shape). unless_refused (said_layout r) out (sets out 0 (shape_bytes s))) (shape_apart parts z m b counts xy zs ms);
       }
 
-  pub body_together : (xs ys zs ms : List Float) (out : List ℕ) (r : LayoutAnswer) (out' : List ℕ) → length xs ≡ length ys → WritesBody parts z m b counts xs ys zs ms out r out' → Old.WritesBody parts z m b counts (together xs ys) zs ms out r out'
+  pub body_together : (xs ys zs ms : List Float) (out : List ℕ) (r : Result ℕ LayoutError) (out' : List ℕ) → length xs ≡ length ys → WritesBody parts z m b counts xs ys zs ms out r out' → Old.WritesBody parts z m b counts (together xs ys) zs ms out r out'
   body_together xs ys zs ms out r out' e h =
       let x = x-back xs ys e in
       let y = y-back xs ys e in

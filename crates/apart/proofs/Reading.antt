@@ -6,8 +6,10 @@ use mathlib.Core.Option.{Option, none, some}
 use Prim.Native.Nat.{ℕ, ◌+◌, ◌*◌}
 use lib.Dec.{leb}
 use lib.Ieee.{Float}
+use lib.IntN.{ℤ}
 use lib.ListN.{length, drop}
 use lib.Seq.{sets}
+use Rattle.std.specs.Prelude as Std
 use Rattle.format.specs.declared.kinds.Kind.{Kind}
 use Rattle.format.specs.declared.units.Bytes.{Bytes}
 use Rattle.format.specs.Lengths.{Form, nothing, one_point, many_points, form_at}
@@ -21,7 +23,6 @@ use Rattle.multipart.specs.declared.Body.{Body}
 use Rattle.multipart.specs.Answers.{said_body}
 use Rattle.multipart.specs.Body.{parts_in, points_in, pairs_at, x_in, y_in, body_in, count_tests, rest_tests, has_room, body_of}
 use Rattle.multipart.proofs.BodyLaws.{counts-first, x_is, y_is}
-use Rattle.record.specs.declared.Wanted.{Wanted}
 use Rattle.record.specs.Reading.{Shaped, null_shape, point_shape, multipoint_shape, parts_shape, code_in, kind_in, front_tests, by_form, record_of, said_record, stored}
 use Rattle.record.specs.Reading as Records
 use Rattle.record.proofs.ShapeLaws.{several_by, record_is}
@@ -57,7 +58,7 @@ module _ (xy x y : ℕ) (h : Halves xy x y) where
   form_same (some many_points) k size s counts zs ms = several_same k size s counts zs ms
   form_same (some Lengths.parts) k size s counts zs ms = several_same k size s counts zs ms
 
-  record_same : (wanted : Wanted) (size : Bytes) (s : List ℕ) (counts zs ms : ℕ) → Old.record_of wanted size s counts xy zs ms ≡ record_of wanted size s counts x y zs ms
+  record_same : (wanted : Std.Option ℤ) (size : Bytes) (s : List ℕ) (counts zs ms : ℕ) → Old.record_of wanted size s counts xy zs ms ≡ record_of wanted size s counts x y zs ms
   record_same wanted size s counts zs ms =
       ap (first (front_tests wanted size s)) (form_same (form_at (code_in s)) (kind_in s) size s counts zs ms) ∙ sym (record_is wanted size s counts x y zs ms)
 

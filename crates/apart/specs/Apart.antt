@@ -1,17 +1,18 @@
 -- The statement: each call of today over stores of x and y is the call of the old form over the pairs. An answer, a refusal with its values, a
 -- store or an output that meets the one contract meets the other, with the pairs taken apart, or the two stores put together. Contracts determine
 -- what they speak of, so nothing else can come of either.
-use Rattle.std.specs.Prelude.{◌≡◌, Bool, List, ℕ, ◌*◌, ◌≤◌, Float, length, take}
+use Rattle.std.specs.Prelude.{◌≡◌, Bool, List, ℕ, ◌*◌, ◌≤◌, Float, ℤ, length, take, Option, Result}
 use Rattle.format.specs.declared.units.Bytes.{Bytes}
 use Rattle.header.specs.declared.bbox.BBoxZ.{BBoxZ}
-use Rattle.layouts.specs.declared.LayoutAnswer.{LayoutAnswer}
+use Rattle.layouts.specs.declared.LayoutError.{LayoutError}
 use Rattle.layouts.specs.Answers.{WritesBody}
-use Rattle.multipart.specs.declared.BodyAnswer.{BodyAnswer}
+use Rattle.multipart.specs.declared.Body.{Body}
+use Rattle.multipart.specs.declared.BodyError.{BodyError}
 use Rattle.multipart.specs.Answers.{ReadsBody}
-use Rattle.record.specs.declared.RecordAnswer.{RecordAnswer}
-use Rattle.record.specs.declared.Wanted.{Wanted}
+use Rattle.record.specs.declared.Record.{Record}
+use Rattle.record.specs.declared.RecordError.{RecordError}
 use Rattle.record.specs.Reading.{ReadsRecord}
-use Rattle.rings.specs.declared.CloseAnswer.{CloseAnswer}
+use Rattle.rings.specs.declared.CloseError.{CloseError}
 use Rattle.rings.specs.Answers.{closed_of, turning_of, Closing}
 use Rattle.writer.specs.declared.State.{State}
 use Rattle.writer.specs.declared.Adding.{Adding}
@@ -33,26 +34,26 @@ lent_together t = record { code = t.code; box = t.box; counts = t.counts; xy = t
 -- ---- reading: stores of any lengths, bodies in parts or not, with any flags
 
 pub record Reading : Type 0 where
-  pub body_apart : (parts z m : Bool) (s counts : List ℕ) (xy zs ms : List Float) (r : BodyAnswer) (counts' : List ℕ) (xy' zs' ms' : List Float)
+  pub body_apart : (parts z m : Bool) (s counts : List ℕ) (xy zs ms : List Float) (r : Result Body BodyError) (counts' : List ℕ) (xy' zs' ms' : List Float)
       → OldReading.ReadsBody parts z m s counts xy zs ms r counts' xy' zs' ms'
       → ReadsBody parts z m s counts (all_x xy) (all_y xy) zs ms r counts' (all_x xy') (all_y xy') zs' ms'
-  pub body_together : (parts z m : Bool) (s counts : List ℕ) (xs ys zs ms : List Float) (r : BodyAnswer) (counts' : List ℕ) (xs' ys' zs' ms' : List Float)
+  pub body_together : (parts z m : Bool) (s counts : List ℕ) (xs ys zs ms : List Float) (r : Result Body BodyError) (counts' : List ℕ) (xs' ys' zs' ms' : List Float)
       → ReadsBody parts z m s counts xs ys zs ms r counts' xs' ys' zs' ms'
       → OldReading.ReadsBody parts z m s counts (together xs ys) zs ms r counts' (together xs' ys') zs' ms'
-  pub record_apart : (wanted : Wanted) (size : Bytes) (s counts : List ℕ) (xy zs ms : List Float) (r : RecordAnswer) (counts' : List ℕ) (xy' zs' ms' : List Float)
+  pub record_apart : (wanted : Option ℤ) (size : Bytes) (s counts : List ℕ) (xy zs ms : List Float) (r : Result Record RecordError) (counts' : List ℕ) (xy' zs' ms' : List Float)
       → OldReading.ReadsRecord wanted size s counts xy zs ms r counts' xy' zs' ms'
       → ReadsRecord wanted size s counts (all_x xy) (all_y xy) zs ms r counts' (all_x xy') (all_y xy') zs' ms'
-  pub record_together : (wanted : Wanted) (size : Bytes) (s counts : List ℕ) (xs ys zs ms : List Float) (r : RecordAnswer) (counts' : List ℕ) (xs' ys' zs' ms' : List Float)
+  pub record_together : (wanted : Option ℤ) (size : Bytes) (s counts : List ℕ) (xs ys zs ms : List Float) (r : Result Record RecordError) (counts' : List ℕ) (xs' ys' zs' ms' : List Float)
       → ReadsRecord wanted size s counts xs ys zs ms r counts' xs' ys' zs' ms'
       → OldReading.ReadsRecord wanted size s counts (together xs ys) zs ms r counts' (together xs' ys') zs' ms'
 
 -- ---- writing: tables of any lengths; to be put together, x and y have to be as long as each other, since all else is 10
 
 pub record Writing : Type 0 where
-  pub body_apart : (parts z m : Bool) (b : BBoxZ) (counts : List ℕ) (xy zs ms : List Float) (out : List ℕ) (r : LayoutAnswer) (out' : List ℕ)
+  pub body_apart : (parts z m : Bool) (b : BBoxZ) (counts : List ℕ) (xy zs ms : List Float) (out : List ℕ) (r : Result ℕ LayoutError) (out' : List ℕ)
       → OldWriting.WritesBody parts z m b counts xy zs ms out r out'
       → WritesBody parts z m b counts (all_x xy) (all_y xy) zs ms out r out'
-  pub body_together : (parts z m : Bool) (b : BBoxZ) (counts : List ℕ) (xs ys zs ms : List Float) (out : List ℕ) (r : LayoutAnswer) (out' : List ℕ)
+  pub body_together : (parts z m : Bool) (b : BBoxZ) (counts : List ℕ) (xs ys zs ms : List Float) (out : List ℕ) (r : Result ℕ LayoutError) (out' : List ℕ)
       → length xs ≡ length ys
       → WritesBody parts z m b counts xs ys zs ms out r out'
       → OldWriting.WritesBody parts z m b counts (together xs ys) zs ms out r out'
@@ -71,9 +72,9 @@ pub record Rings : Type 0 where
   pub closed_together : (xs ys : List Float) (n : ℕ) → n ≤ length xs → n ≤ length ys → closed_of xs ys n ≡ OldRings.closed_of (together (take n xs) (take n ys))
   pub turning_apart : (xy : List Float) → OldRings.turning_of xy ≡ turning_of (all_x xy) (all_y xy) (length (all_x xy))
   pub turning_together : (xs ys : List Float) (n : ℕ) → n ≤ length xs → n ≤ length ys → turning_of xs ys n ≡ OldRings.turning_of (together (take n xs) (take n ys))
-  pub closing_apart : (xy : List Float) (n : ℕ) (r : CloseAnswer) (xy' : List Float)
+  pub closing_apart : (xy : List Float) (n : ℕ) (r : Result ℕ CloseError) (xy' : List Float)
       → OldRings.Closing xy (2 * n) r xy'
       → Closing (all_x xy) (all_y xy) n r (all_x xy') (all_y xy')
-  pub closing_together : (xs ys : List Float) (n : ℕ) (r : CloseAnswer) (xs' ys' : List Float)
+  pub closing_together : (xs ys : List Float) (n : ℕ) (r : Result ℕ CloseError) (xs' ys' : List Float)
       → Closing xs ys n r xs' ys'
       → OldRings.Closing (together xs ys) (2 * n) r (together xs' ys')

@@ -1,9 +1,9 @@
 -- The old form of the ring helpers: a run was so many coordinates x0 y0 x1 y1 .. at the front of one store. What is asked of points is today's.
-use Rattle.std.specs.Prelude.{◌≡◌, Bool, List, [], ◌∷◌, ℕ, ◌*◌, ◌%◌, leb, eqb, Float, length, take}
+use Rattle.std.specs.Prelude.{◌≡◌, Bool, List, [], ◌∷◌, ℕ, ◌*◌, ◌%◌, leb, eqb, Float, length, take, Result}
 use Rattle.std.proofs.lemmas.List.Edits.{sets}
 use Rattle.format.specs.Order.{first}
 use Rattle.format.specs.Said.{Said, gives, room, tables, unless_refused}
-use Rattle.rings.specs.declared.CloseAnswer.{CloseAnswer}
+use Rattle.rings.specs.declared.CloseError.{CloseError}
 use Rattle.rings.specs.Answers.{said_closing, count_then}
 use Rattle.rings.specs.Points.{Point, closed, appended, Turning, turning}
 
@@ -42,6 +42,6 @@ closing_of store run =
 abbrev pub store_then : List Float → ℕ → List Float
 store_then store run = unless_refused (closing_of store run) store (sets store run (flat (appended (front store run))))
 
-pub record Closing (store : List Float) (run : ℕ) (answer : CloseAnswer) (after : List Float) : Type 0 where
+pub record Closing (store : List Float) (run : ℕ) (answer : Result ℕ CloseError) (after : List Float) : Type 0 where
   pub answered : said_closing answer ≡ closing_of store run
   pub left : after ≡ store_then store run

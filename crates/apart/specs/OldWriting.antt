@@ -1,12 +1,12 @@
 -- The old form of writing a body: the pairs were lent in one table. What does not speak of pairs is today's.
-use Rattle.std.specs.Prelude.{◌≡◌, Bool, true, false, cond, ◌&&◌, ◌||◌, List, [], ◌∷◌, ℕ, ◌*◌, ◌/◌, ◌^◌, leb, ltb, eqb, Float, length}
+use Rattle.std.specs.Prelude.{◌≡◌, Bool, true, false, cond, ◌&&◌, ◌||◌, List, [], ◌∷◌, ℕ, ◌*◌, ◌/◌, ◌^◌, leb, ltb, eqb, Float, length, Result}
 use Rattle.std.proofs.lemmas.List.Edits.{sets}
 use Rattle.format.specs.Encoding.{shape_bytes}
 use Rattle.format.specs.Order.{first}
 use Rattle.format.specs.Said.{Said, gives, tables, long, room_bytes, unless_refused}
 use Rattle.format.specs.Shapes.{Point, Multipoint, Parts, Shape, multipoint, parted, sum}
 use Rattle.header.specs.declared.bbox.BBoxZ.{BBoxZ}
-use Rattle.layouts.specs.declared.LayoutAnswer.{LayoutAnswer}
+use Rattle.layouts.specs.declared.LayoutError.{LayoutError}
 use Rattle.layouts.specs.Answers.{body_size, said_layout}
 use Rattle.layouts.specs.Tables.{bits, split_by, measure_of, box_of}
 
@@ -66,6 +66,6 @@ layout_tests parts z m counts xy zs ms room =
 abbrev pub layout_of : Bool → Bool → Bool → List ℕ → List Float → List Float → List Float → ℕ → Said ℕ
 layout_of parts z m counts xy zs ms room = first (layout_tests parts z m counts xy zs ms room) (gives (lent_size parts z m counts xy))
 
-pub record WritesBody (parts z m : Bool) (b : BBoxZ) (counts : List ℕ) (xy zs ms : List Float) (out : List ℕ) (answer : LayoutAnswer) (out' : List ℕ) : Type 0 where
+pub record WritesBody (parts z m : Bool) (b : BBoxZ) (counts : List ℕ) (xy zs ms : List Float) (out : List ℕ) (answer : Result ℕ LayoutError) (out' : List ℕ) : Type 0 where
   pub says : said_layout answer ≡ layout_of parts z m counts xy zs ms (length out)
   pub out_is : out' ≡ unless_refused (said_layout answer) out (sets out 0 (shape_bytes (several_of parts z m b counts xy zs ms)))
