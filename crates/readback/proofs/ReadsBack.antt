@@ -42,7 +42,7 @@ stores_back k (parted s) o v small =
 -- a shape of several points, in p parts or as a multipoint
 module _ (f : Bool) (k : Kind) (s : Shape) (p : ℕ) (box : BoxXY) (ps : List Point) (z m : Option Measure) (t : TakenKind k) (a : LaidOut f k (shape_bytes s) p box ps z m)
     (flag : k.parts ≡ f) (none : f ≡ false → p ≡ 0) (words : shape_words s ≡ content_words (several_form f) (there z) (there m) p (length ps)) where
-  abbrev two : Two
+  abbrev two : Counts
   two = record { parts = p; points = length ps }
 
   has-m : has_m k (size s) two ≡ there m
