@@ -30,7 +30,7 @@ use Rattle.layouts.specs.Steps.{Agreed}
 use Rattle.layouts.specs.Tables.{points_lent}
 use Rattle.layouts.proofs.TableLaws.{agreed, parts-in, points-in, several_of_kind}
 use Rattle.writer.specs.declared.State.{State}
-use Rattle.std.specs.Prelude.{Result, Ok, Err}
+use Rattle.std.specs.Prelude.{Result, Ok, Err, IsErr}
 use Rattle.writer.specs.declared.AddError.{AddError}
 use Rattle.writer.specs.declared.AddError.TheVariants.{Size}
 use Rattle.writer.specs.declared.Headers.{Headers}
@@ -75,9 +75,13 @@ never_size s t out start entry a f e size =
     let said : NotSize (adding_of s t out start entry) = rw f (first_holds NotSize (drop 1 (add_tests s t out start entry)) (gives (record_size t)) (omega arith) tt) in
     subst NotSize (sym e ∙ ap said_add size) said refl
 
-pub never_finishing : (s : State) (r : Result Headers NoState) → state_fine s ≡ true → Finishes s r → r ≡ Ok (headers_of s)
-never_finishing s (Ok h) f e = let same : gives h ≡ gives (headers_of s) = e.says ∙ rw f in cc
-never_finishing s (Err x) f e = let same : wrong_size 0 ≡ gives (headers_of s) = e.says ∙ rw f in absurd (let z : ◌≡◌ {A = ℕ} 0 1 = cc in omega arith)
+-- nor is its finishing
+pub finished-is : (s : State) (r : Result Headers NoState) → state_fine s ≡ true → Finishes s r → r ≡ Ok (headers_of s)
+finished-is s (Ok h) f e = let same : gives h ≡ gives (headers_of s) = e.says ∙ rw f in cc
+finished-is s (Err x) f e = let same : wrong_size 0 ≡ gives (headers_of s) = e.says ∙ rw f in absurd (let z : ◌≡◌ {A = ℕ} 0 1 = cc in omega arith)
+
+pub never_finishing : (s : State) (r : Result Headers NoState) → state_fine s ≡ true → Finishes s r → IsErr r → ⊥
+never_finishing s r f e h = let same = rw (finished-is s r f e) at h in absurd (let z : ◌≡◌ {A = ℕ} 0 1 = cc in omega arith)
 
 pub accepted : (s : State) (t : Lent) (out start entry n : ℕ) → adding_of s t out start entry ≡ gives n → Accepted s t
 unfolding adding_of

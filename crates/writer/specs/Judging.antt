@@ -4,6 +4,7 @@ use Rattle.std.specs.Prelude as Std
 use Rattle.std.proofs.Math.Option.{Option, none, some}
 use Rattle.format.specs.declared.kinds.Kind.{Kind}
 use Rattle.format.specs.declared.lengths.Formula.{Formula}
+use Rattle.format.specs.declared.shapes.Tables.{Tables}
 use Rattle.format.specs.declared.units.Words.{Words}
 use Rattle.format.specs.declared.units.Bytes.{Bytes}
 use Rattle.format.specs.Kinds.{kind_at}
@@ -187,3 +188,23 @@ box_by s code k b xs ys zs ms = cond (is_zero code) s.bbox (grown (own_by k b xs
 
 abbrev pub next_by : ℤ → Words → ℤ → ℕ → BBoxZ → State
 next_by number after kind points b = record { words = after; number = pos (natural_of number + 1); kind = kind; points = points; bbox = b }
+
+-- ---- the same of tables that are lent together
+
+abbrev pub tables_lent : Kind → Tables → Result ℕ AddError
+tables_lent k t = tables_judged k t.counts.now t.xs.now t.ys.now t.zs.now t.ms.now
+
+abbrev pub ReadyLent : Kind → Tables → ℕ → Type 0
+ReadyLent k t bytes = Ready k t.counts.now t.xs.now t.ys.now t.zs.now t.ms.now bytes
+
+abbrev pub shape_lent : Kind → BBoxZ → Tables → Shape
+shape_lent k b t = shape_by k b t.counts.now t.xs.now t.ys.now t.zs.now t.ms.now
+
+abbrev pub words_lent : Kind → Tables → ℕ
+words_lent k t = words_by k t.counts.now t.xs.now
+
+abbrev pub own_lent : Kind → BBoxZ → Tables → BBoxZ
+own_lent k b t = own_by k b t.xs.now t.ys.now t.zs.now t.ms.now
+
+abbrev pub box_lent : State → ℤ → Kind → BBoxZ → Tables → BBoxZ
+box_lent s code k b t = box_by s code k b t.xs.now t.ys.now t.zs.now t.ms.now

@@ -4,13 +4,13 @@ ghost use Rattle.format.specs.Lengths.{formula};
 ghost use Rattle.format.specs.Shapes.{sum};
 ghost use Rattle.header.specs.declared.bbox.BBoxZ.{BBoxZ};
 ghost use Rattle.writer.specs.Adding.{lent_tables};
-ghost use Rattle.writer.specs.Judging.{form_by, OfCode, JudgesKind, has_points, tables_judged, length_judged, record_bytes_of, Whole, room_judged, JudgesShape, Judges};
+ghost use Rattle.writer.specs.Judging.{form_by, OfCode, JudgesKind, has_points, tables_lent, length_judged, record_bytes_of, Whole, room_judged, JudgesShape, Judges};
 ghost use Rattle.writer.specs.State.{state_fine};
 
-use crate::states::words_after;
+use crate::states::{look_up, state_fine, words_after};
 use crate::{AddError, State};
 use format::kinds::Kind;
-use format::lengths::{Formula, content_words};
+use format::lengths::{Formula, content_words, has_several};
 use format::shapes::Tables;
 use format::units::{Bytes, Words};
 
@@ -35,10 +35,10 @@ pub(crate) struct Judged {
 fn judge_kind(state: State, code: i32) -> Result<(Kind, Formula), AddError>
     ensures { JudgesKind state code result }
 {
-    if !crate::states::state_fine(state) {
+    if !state_fine(state) {
         return Err(AddError::Size);
     }
-    let (kind, formula) = crate::states::look_up(code)?;
+    let (kind, formula) = look_up(code)?;
     let held = state.kind;
     if held == 0 {
         // a fresh state gets its kind from the record, and Null gives none
@@ -57,6 +57,7 @@ fn sums_to(counts: &[u32], n: usize) -> bool
     ensures { result ≡ eqb (sum counts.now) n }
 {
     let mut left = n;
+    // `usize` has no `From<u32>`: the cast stays
     for &count in counts {
         let Some(rest) = left.checked_sub(count as usize) else {
             return false;
@@ -76,7 +77,7 @@ fn has_points(k: Kind, counts: &[u32], n: usize) -> bool
     if !counts.is_empty() {
         return false;
     }
-    format::lengths::has_several(k) || n == usize::from(k.code != 0)
+    has_several(k) || n == usize::from(k.code != 0)
 }
 
 // The number where the flag is set, else 0.
@@ -88,7 +89,7 @@ fn where_set(flag: bool, n: usize) -> usize
 
 // The tables agree in length: 10. How many points they have.
 fn judge_tables(k: Kind, t: &Tables) -> Result<usize, AddError>
-    ensures { result ≡ tables_judged k t.now.counts.now t.now.xs.now t.now.ys.now t.now.zs.now t.now.ms.now }
+    ensures { result ≡ tables_lent k t.now }
 {
     let n = t.xs.len();
     let agree = has_points(k, t.counts, n)

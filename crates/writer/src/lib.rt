@@ -125,15 +125,7 @@ pub fn add_record(
             let kind = record::next_kind(state, code);
             let points = record::next_points(state, t.xs.len());
             let bounds = record::next_box(state, code, judged.kind, bbox, t);
-            record::put_record(
-                &mut out[start..],
-                state.number,
-                judged.content,
-                code,
-                judged.kind,
-                bbox,
-                t,
-            );
+            record::put_record(&mut out[start..], state.number, code, judged, bbox, t);
             record::put_two(entry, state.words.0, judged.content);
             Adding {
                 answer: Ok(judge::in_memory(judged.size)),

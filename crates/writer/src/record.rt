@@ -6,11 +6,13 @@ ghost use Rattle.std.proofs.Common.{of_z};
 ghost use Rattle.format.specs.Encoding.{shape_bytes, record_bytes, two_big};
 ghost use Rattle.format.specs.Numbers.{f64s_le};
 ghost use Rattle.writer.specs.Adding.{held_box};
-ghost use Rattle.writer.specs.Judging.{natural_of, shape_by, words_of, words_by, Ready, kind_by, own_by, box_by, next_by};
+ghost use Rattle.writer.specs.Judging.{natural_of, words_of, kind_by, next_by, ReadyLent, shape_lent, words_lent, own_lent, box_lent};
 
 use crate::State;
+use crate::judge::Judged;
 use crate::states::natural;
 use format::kinds::Kind;
+use format::lengths::has_several;
 use format::shapes::{Layout, Tables};
 use format::units::Words;
 use header::bbox::BBoxZ;
@@ -37,10 +39,10 @@ fn put_point(out: &mut [u8], t: &Tables)
 
 // What follows the kind's field, by the kind's flags.
 fn put_body(out: &mut [u8], k: Kind, bbox: BBoxZ, t: &Tables)
-    requires { Ready k t.now.counts.now t.now.xs.now t.now.ys.now t.now.zs.now t.now.ms.now (length out.old) }
-    ensures { out.new ≡ sets out.old 0 (shape_bytes (shape_by k bbox t.now.counts.now t.now.xs.now t.now.ys.now t.now.zs.now t.now.ms.now)) }
+    requires { ReadyLent k t.now (length out.old) }
+    ensures { out.new ≡ sets out.old 0 (shape_bytes (shape_lent k bbox t.now)) }
 {
-    if format::lengths::has_several(k) {
+    if has_several(k) {
         let layout = Layout {
             parts: k.parts,
             z: k.z,
@@ -61,32 +63,32 @@ fn put_body(out: &mut [u8], k: Kind, bbox: BBoxZ, t: &Tables)
 pub(crate) fn put_record(
     out: &mut [u8],
     number: i32,
-    content: Words,
     code: i32,
-    k: Kind,
+    judged: Judged,
     bbox: BBoxZ,
     t: &Tables,
 )
-    requires ready { Ready k t.now.counts.now t.now.xs.now t.now.ys.now t.now.zs.now t.now.ms.now (length out.old) }
-    requires xs_in_bounds { 8 + 2 * words_by k t.now.counts.now t.now.xs.now ≤ length out.old }
-    requires code_value { code ≡ pos k.code }
-    requires content_value { content ≡ words_of (words_by k t.now.counts.now t.now.xs.now) }
-    ensures { out.new ≡ sets out.old 0 (record_bytes k (of_z w32 number) (shape_by k bbox t.now.counts.now t.now.xs.now t.now.ys.now t.now.zs.now t.now.ms.now)) }
+    requires ready { ReadyLent judged.kind t.now (length out.old) }
+    requires xs_in_bounds { 8 + 2 * words_lent judged.kind t.now ≤ length out.old }
+    requires code_value { code ≡ pos judged.kind.code }
+    requires content_value { judged.content ≡ words_of (words_lent judged.kind t.now) }
+    ensures { out.new ≡ sets out.old 0 (record_bytes judged.kind (of_z w32 number) (shape_lent judged.kind bbox t.now)) }
 {
-    put_two(out, number, content);
+    put_two(out, number, judged.content);
     fields::put_le_i32(out, 8, code);
-    put_body(&mut out[12..], k, bbox, t);
+    put_body(&mut out[12..], judged.kind, bbox, t);
 }
 
 // The box that a record other than Null gives to the header.
 fn own_box(k: Kind, bbox: BBoxZ, t: &Tables) -> BBoxZ
-    ensures { result ≡ own_by k bbox t.now.xs.now t.now.ys.now t.now.zs.now t.now.ms.now }
+    ensures { result ≡ own_lent k bbox t.now }
 {
-    let several = format::lengths::has_several(k);
-    if several {
-        return boxes::flat_box(k, bbox);
-    }
-    boxes::flat_box(k, boxes::point_box(t))
+    let own = if has_several(k) {
+        bbox
+    } else {
+        boxes::point_box(t)
+    };
+    boxes::flat_box(k, own)
 }
 
 // The box that it finds.
@@ -94,9 +96,10 @@ fn held_box(state: State) -> BBoxZ
     ensures { result ≡ held_box state }
 {
     if state.kind == 0 {
-        return boxes::start_box();
+        boxes::start_box()
+    } else {
+        state.bbox
     }
-    state.bbox
 }
 
 // The file's kind behind the record: Null leaves the one that it finds.
@@ -108,7 +111,7 @@ pub(crate) fn next_kind(state: State, code: i32) -> i32
 
 // The header's box behind the record: Null leaves the one that it finds.
 pub(crate) fn next_box(state: State, code: i32, k: Kind, bbox: BBoxZ, t: &Tables) -> BBoxZ
-    ensures { result ≡ box_by state code k bbox t.now.xs.now t.now.ys.now t.now.zs.now t.now.ms.now }
+    ensures { result ≡ box_lent state code k bbox t.now }
 {
     if code == 0 {
         return state.bbox;

@@ -63,19 +63,11 @@ fn counts_fine(words: Words, number: i32, points: u32, first: bool) -> bool
 {
     let w = count(words);
     let n = natural(number);
-    if w < 50 {
-        return false;
-    }
-    if n < 1 {
-        return false;
-    }
-    if w < 50 + 6 * (n - 1) {
-        return false;
-    }
-    if w < u64::from(points) {
-        return false;
-    }
-    !first || (w == 50 && n == 1)
+    50 <= w
+        && 1 <= n
+        && 50 + 6 * (n - 1) <= w
+        && u64::from(points) <= w
+        && (!first || (w == 50 && n == 1))
 }
 
 // Whether the value is a writer state.
