@@ -104,7 +104,7 @@ serves : (s : State) → state_fine s ≡ true → NeverSize s
 serves s f =
     record {
       adding = λ t out start entry r out' entry' c. never_size s t (length out) start (length entry) r.answer f c.says;
-      finishing = λ r c. never_finishing s r.answer f c.says;
+      finishing = λ r c e. never_finishing s r f c e;
     }
 
 pub states_serve : StatesServe

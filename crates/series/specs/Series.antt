@@ -1,10 +1,11 @@
 -- A series of calls: adds and finishings in any order, refused ones among them, each on the state that the call before it left.
-use Rattle.std.specs.Prelude.{List, [], ◌∷◌, ◌++◌, ℕ}
+use Rattle.std.specs.Prelude.{List, [], ◌∷◌, ◌++◌, ℕ, Result}
 use Rattle.format.specs.Said.{unless_refused}
 use Rattle.format.specs.Shapes.{Shape}
 use Rattle.writer.specs.declared.State.{State}
 use Rattle.writer.specs.declared.Adding.{Adding}
-use Rattle.writer.specs.declared.Finishing.{Finishing}
+use Rattle.writer.specs.declared.Headers.{Headers}
+use Rattle.writer.specs.declared.NoState.{NoState}
 use Rattle.writer.specs.Adding.{Lent, lent_shape, said_add, Adds}
 use Rattle.writer.specs.Finishing.{Finishes}
 
@@ -21,7 +22,7 @@ pub record Add : Type 0 where
 
 pub data Call : Type 0 where
   adds : Add → Call
-  finishes : Finishing → Call
+  finishes : Result Headers NoState → Call
 
 -- from this state on, each call meets its contract
 abbrev pub Made : State → List Call → Type 0
