@@ -1,6 +1,6 @@
 -- Reading what was written: where the writer took the tables, reading its record's content, with no wanted kind, gives the tables back, m raised.
 -- Every double comes back bit for bit but for a NaN: the logic has one, and the writer writes one.
-use Rattle.std.specs.Prelude.{◌≡◌, Bool, true, cond, List, [], ◌∷◌, map, ℕ, ◌≤◌, T, Float, pos, length, get_or, drop}
+use Rattle.std.specs.Prelude.{◌≡◌, Bool, true, cond, List, [], ◌∷◌, map, ℕ, ◌≤◌, T, Float, pos, length, get_or, drop, None}
 use Rattle.std.proofs.Math.Option.{some}
 use Rattle.std.specs.Float.{binary64}
 use Rattle.std.specs.Float.Ieee.{fits, of_int}
@@ -14,7 +14,6 @@ use Rattle.multipart.specs.Body.{no_range, raised, counts_in, x_in, y_in, z_in, 
 use Rattle.layouts.specs.Tables.{points_lent}
 use Rattle.writer.specs.declared.State.{State}
 use Rattle.writer.specs.Adding.{Lent, lent_kind, lent_form, lent_shape, record_of, adding_of}
-use Rattle.record.specs.declared.Wanted.TheVariants as Wants
 use Rattle.record.specs.Reading
 use Rattle.record.specs.Reading.{Shaped, null_shape, point_shape, multipoint_shape, parts_shape, code_in}
 use Rattle.readback.specs.ReadBack.{Small, size}
@@ -81,7 +80,7 @@ written s t = drop 8 (record_of s t)
 pub record TablesBack (s : State) (t : Lent) : Type 0 where
   pub kind_is : kind_at (code_in (written s t)) ≡ some (lent_kind t)
   pub answer : (counts xs ys zs ms : ℕ) → (several (lent_form t) ≡ true → Room t counts xs ys zs ms)
-      → Reading.record_of Wants.Any (size (lent_shape t)) (written s t) counts xs ys zs ms ≡ gives (shaped_by (lent_form t) t)
+      → Reading.record_of None (size (lent_shape t)) (written s t) counts xs ys zs ms ≡ gives (shaped_by (lent_form t) t)
   pub stores : several (lent_form t) ≡ true → TablesIn t (written s t)
 
 abbrev pub ReadsWritten : Type 0
