@@ -13,11 +13,11 @@ ROOT = os.path.dirname(os.path.dirname(os.path.dirname(os.path.abspath(__file__)
 # What is wrong, in which file, which text, and what stands in its place.
 VARIANTS = [
     ('closed without y', 'rings/src/lib.rt',
-     '        if fields::same(ys[0], ys[n - 1]) {\n            return ClosedAnswer::Closed;\n        }\n', '        return ClosedAnswer::Closed;\n'),
+     'Ok(fields::same(xs[0], xs[n - 1]) && fields::same(ys[0], ys[n - 1]))', 'Ok(fields::same(xs[0], xs[n - 1]))'),
     ('2^-1074 closes a ring at 0', 'fields/src/lib.rt', '    if rest == 0 {\n', '    if rest <= 1 {\n'),
     ('the turning is not halved', 'rings/src/lib.rt', 'if sum / 2.0 < 0.0', 'if sum < 0.0'),
-    ('the turning takes y for x', 'rings/src/lib.rt', '(xs[next] - xs[i])', '(ys[next] - ys[i])'),
-    ('closing appends x twice', 'rings/src/lib.rt', 'ys[n] = y;', 'ys[n] = x;'),
+    ('the turning takes y for x', 'rings/src/lib.rt', '(xs[i] - xs[i - 1])', '(ys[i] - ys[i - 1])'),
+    ('closing appends x twice', 'rings/src/lib.rt', 'ys[n] = ys[0];', 'ys[n] = xs[0];'),
     ('an empty part is refused', 'multipart/src/lib.rt', 'if d < 0 {', 'if d <= 0 {'),
     ('a part of 2147483647 points is refused', 'multipart/src/lib.rt', 'if 0x7fff_ffff < d', 'if 0x7fff_fffe < d'),
     ('the m rule with its arguments exchanged', 'multipart/src/store.rt', 'if fields::below(-10e38, x) { x } else { -10e38 }',

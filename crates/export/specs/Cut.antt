@@ -1,12 +1,11 @@
 -- What a caller may conclude from refusal 1, whichever call gives it: where the bytes end, and how many of the field's bytes are present.
-use Rattle.std.specs.Prelude.{◌≡◌, Bool, List, ℕ, ◌+◌, ◌<◌, length}
+use Rattle.std.specs.Prelude.{◌≡◌, Bool, Option, List, ℕ, ◌+◌, ◌<◌, ℤ, length}
 use Rattle.format.specs.declared.units.Bytes.{Bytes}
 use Rattle.format.specs.Lengths.{form_at}
 use Rattle.header.specs.Entries.{two_of, record_header, shape_index}
 use Rattle.header.specs.Reading.{header_of, header_width}
 use Rattle.multipart.specs.Answers.{counts_of}
 use Rattle.multipart.specs.Body.{body_of, body_width}
-use Rattle.record.specs.declared.Wanted.{Wanted}
 use Rattle.record.specs.Reading.{code_in, record_of, content_width}
 use Rattle.export.specs.declared.refusals.Refusal.{Refusal}
 use Rattle.export.specs.Refusals.{refusal_of}
@@ -18,7 +17,7 @@ pub data Call : Type 0 where
   read_index_entry : Call
   read_counts : (parts : Bool) → Call
   read_body : (parts z m : Bool) (counts xs ys zs ms : ℕ) → Call
-  read_record : (wanted : Wanted) (size : Bytes) (counts xs ys zs ms : ℕ) → Call
+  read_record : (wanted : Option ℤ) (size : Bytes) (counts xs ys zs ms : ℕ) → Call
 
 -- its refusal of these bytes
 abbrev pub refusal_from : Call → List ℕ → Refusal

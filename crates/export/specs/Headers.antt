@@ -9,15 +9,10 @@ use Rattle.boxes.specs.Boxes.{zero_box}
 use Rattle.export.specs.declared.headers.HeaderRead.{HeaderRead}
 use Rattle.export.specs.declared.headers.RecordHeaderRead.{RecordHeaderRead}
 use Rattle.export.specs.declared.headers.IndexEntryRead.{IndexEntryRead}
-use Rattle.export.specs.declared.refusals.Refusal.{Refusal}
 use Rattle.export.specs.Refusals.{refusal_of, or_else}
 
 abbrev pub zero_header : Header
 zero_header = record { file_length = record { 0 = pos 0 }; version = pos 0; shape_type = pos 0; bbox = zero_box }
-
--- what a refusal answers
-abbrev pub no_header : Refusal → HeaderRead
-no_header refusal = record { refusal = refusal; header = zero_header }
 
 abbrev pub header_read : Said Header → HeaderRead
 header_read said = record { refusal = refusal_of said; header = or_else zero_header said }

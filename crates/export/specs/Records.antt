@@ -1,12 +1,11 @@
 -- A record read: the refusal, the shape, and what the stores then hold.
-use Rattle.std.specs.Prelude.{◌≡◌, cond, List, ℕ, Float, ℤ, pos, length, drop}
+use Rattle.std.specs.Prelude.{◌≡◌, cond, Option, List, ℕ, Float, ℤ, pos, length, drop}
 use Rattle.format.specs.declared.units.Bytes.{Bytes}
 use Rattle.format.specs.Said.{Said}
 use Rattle.boxes.specs.Boxes.{zero_double}
 use Rattle.multipart.specs.declared.Body.{Body}
 use Rattle.multipart.specs.Body.{no_range, counts_in, x_in, y_in, z_in, m_in}
 use Rattle.record.specs.declared.Point.{Point}
-use Rattle.record.specs.declared.Wanted.{Wanted}
 use Rattle.record.specs.Reading.{Shaped, null_shape, point_shape, multipoint_shape, parts_shape, kind_in, record_of, stored}
 use Rattle.export.specs.declared.records.RecordRead.{RecordRead}
 use Rattle.export.specs.declared.refusals.Refusal.{Refusal}
@@ -48,10 +47,10 @@ abbrev pub as_bytes : ℤ → Bytes
 as_bytes size = record { 0 = size }
 
 -- what reading says, with these stores
-abbrev pub said_of : Wanted → ℤ → List ℕ → List ℕ → List Float → List Float → List Float → List Float → Said Shaped
+abbrev pub said_of : Option ℤ → ℤ → List ℕ → List ℕ → List Float → List Float → List Float → List Float → Said Shaped
 said_of wanted size s counts xs ys zs ms = record_of wanted (as_bytes size) s (length counts) (length xs) (length ys) (length zs) (length ms)
 
-pub record Reads (wanted : Wanted) (size : ℤ) (s counts : List ℕ) (xs ys zs ms : List Float) (r : RecordRead) (counts' : List ℕ) (xs' ys' zs' ms' : List Float) : Type 0 where
+pub record Reads (wanted : Option ℤ) (size : ℤ) (s counts : List ℕ) (xs ys zs ms : List Float) (r : RecordRead) (counts' : List ℕ) (xs' ys' zs' ms' : List Float) : Type 0 where
   pub answer_is : r ≡ record_read (said_of wanted size s counts xs ys zs ms)
   pub counts_are : counts' ≡ stored (said_of wanted size s counts xs ys zs ms) counts (λ m. counts_in (kind_in s).parts (drop 4 s))
   pub x_are : xs' ≡ stored (said_of wanted size s counts xs ys zs ms) xs (λ m. x_in (kind_in s).parts (drop 4 s))

@@ -2,11 +2,11 @@
 use Rattle.std.specs.Prelude.{◌≡◌, cond, List, ℕ, length, replicate}
 use Rattle.std.proofs.lemmas.List.Edits.{sets}
 use Rattle.format.specs.Said.{Said, gives, wrong_size, unless_refused}
+use Rattle.writer.specs.declared.Headers.{Headers}
 use Rattle.writer.specs.declared.State.{State}
 use Rattle.writer.specs.Adding.{Lent, adding_of, next_state, record_of, entry_of}
 use Rattle.writer.specs.Finishing.{shp_header, shx_header}
 use Rattle.writer.specs.State.{state_fine}
-use Rattle.export.specs.declared.refusals.Refusal.{Refusal}
 use Rattle.export.specs.declared.writing.Added.{Added}
 use Rattle.export.specs.declared.writing.Finished.{Finished}
 use Rattle.export.specs.declared.writing.Written.{Written}
@@ -14,15 +14,15 @@ use Rattle.export.specs.Refusals.{refusal_of, or_else}
 
 -- ---- adding
 
--- what a refusal answers
-abbrev pub not_added : Refusal → State → Added
-not_added refusal s = record { refusal = refusal; bytes = 0; state = s }
+-- the answer where the state is lent
+abbrev pub written : Said ℕ → Written
+written said = record { refusal = refusal_of said; bytes = or_else 0 said }
 
 -- the answer with the state after the call
 abbrev pub added : Said ℕ → State → Added
 added said s = record { refusal = refusal_of said; bytes = or_else 0 said; state = s }
 
--- an answer where the state is lent, with that state after the call
+-- that answer with the lent state after the call
 abbrev pub added_with : Written → State → Added
 added_with w s = record { refusal = w.refusal; bytes = w.bytes; state = s }
 
@@ -37,6 +37,13 @@ pub record AddsRecord (s : State) (t : Lent) (out : List ℕ) (start : ℕ) (ent
   pub entry_is : entry' ≡ unless_refused (said_of s t out start entry) entry (sets entry 0 (entry_of s t))
 
 -- ---- finishing
+
+abbrev pub no_headers : Headers
+no_headers = record { shp = replicate 100 0; shx = replicate 100 0 }
+
+abbrev pub headers_finished : Said Headers → Finished
+headers_finished said =
+    record { refusal = refusal_of said; shp = (or_else no_headers said).shp; shx = (or_else no_headers said).shx }
 
 -- what is no writer state is 3
 abbrev pub finishing_of : State → Said (Unit {0})

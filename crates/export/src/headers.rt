@@ -1,15 +1,17 @@
 // Headers, record headers and index entries, read.
-ghost use Rattle.std.specs.Prelude.{◌≡◌};
+ghost use Rattle.std.specs.Prelude.{◌≡◌, Err};
 ghost use Rattle.header.specs.Reading.{said, header_of};
 ghost use Rattle.header.specs.Entries.{two_of, record_header, shape_index, said_record, said_entry};
-ghost use Rattle.export.specs.Headers.{no_header, header_read, record_header_read, index_entry_read};
+ghost use Rattle.export.specs.Headers.{zero_header, header_read, record_header_read, index_entry_read};
+ghost use Rattle.export.specs.Refusals.{refusal_of};
 
 use crate::refusals;
 use crate::refusals::Refusal;
+use format::shapes::Short;
 use format::units::Words;
 use header::bbox::BBoxZ;
-use header::entries::{RecordHeader, RecordHeaderAnswer, ShapeIndex, ShapeIndexAnswer};
-use header::{Header, HeaderAnswer};
+use header::entries::{RecordHeader, ShapeIndex};
+use header::{Header, HeaderError};
 
 #[repr(C)]
 #[derive(Clone, Copy)]
@@ -32,98 +34,112 @@ pub struct IndexEntryRead {
     pub entry: ShapeIndex,
 }
 
-fn no_header(refusal: Refusal) -> HeaderRead
-    ensures { result ≡ no_header refusal }
+impl From<HeaderError> for Refusal {
+    ghost from_gives = { λ e r. r ≡ refusal_of (said (Err e)) };
+
+    fn from(e: HeaderError) -> Refusal {
+        match e {
+            HeaderError::Short(short) => Refusal::from(short),
+            HeaderError::Code(code) => Refusal::with_codes(refusals::CODE, code, 0),
+            HeaderError::Size(at) => Refusal::with_numbers(refusals::SIZE, at, 0),
+            HeaderError::Unknown(code) => Refusal::with_codes(refusals::UNKNOWN, code, 0),
+        }
+    }
+}
+
+#[tactic(auto, using(format::proofs::NumberLaws::zero_bits))]
+fn no_header() -> Header
+    ensures { result ≡ zero_header }
 {
-    HeaderRead {
-        refusal,
-        header: Header {
-            file_length: Words(0),
-            version: 0,
-            shape_type: 0,
-            bbox: BBoxZ {
-                xmin: 0.0,
-                ymin: 0.0,
-                xmax: 0.0,
-                ymax: 0.0,
-                zmin: 0.0,
-                zmax: 0.0,
-                mmin: 0.0,
-                mmax: 0.0,
-            },
+    Header {
+        file_length: Words(0),
+        version: 0,
+        shape_type: 0,
+        bbox: BBoxZ {
+            xmin: 0.0,
+            ymin: 0.0,
+            xmax: 0.0,
+            ymax: 0.0,
+            zmin: 0.0,
+            zmax: 0.0,
+            mmin: 0.0,
+            mmax: 0.0,
         },
     }
 }
 
-fn header_read(a: HeaderAnswer) -> HeaderRead
-    ensures { result ≡ header_read (said a) }
-{
-    match a {
-        HeaderAnswer::Whole(header) => HeaderRead {
-            refusal: refusals::none(),
-            header,
-        },
-        HeaderAnswer::Short(at, present) => no_header(refusals::with_numbers(
-            refusals::SHORT,
-            at,
-            present,
-        )),
-        HeaderAnswer::Code(code) => no_header(refusals::with_code(refusals::CODE, code)),
-        HeaderAnswer::Size(at) => no_header(refusals::with_number(refusals::SIZE, at)),
-        HeaderAnswer::Unknown(code) => no_header(refusals::with_code(refusals::UNKNOWN, code)),
+// The structs for C have fields of their own names, so each answer has its own conversion.
+impl From<Result<Header, HeaderError>> for HeaderRead {
+    ghost from_gives = { λ a r. r ≡ header_read (said a) };
+
+    fn from(a: Result<Header, HeaderError>) -> HeaderRead {
+        match a {
+            Ok(header) => HeaderRead {
+                refusal: Refusal::NONE,
+                header,
+            },
+            Err(e) => HeaderRead {
+                refusal: Refusal::from(e),
+                header: no_header(),
+            },
+        }
+    }
+}
+
+impl From<Result<RecordHeader, Short>> for RecordHeaderRead {
+    ghost from_gives = { λ a r. r ≡ record_header_read (said_record a) };
+
+    fn from(a: Result<RecordHeader, Short>) -> RecordHeaderRead {
+        match a {
+            Ok(header) => RecordHeaderRead {
+                refusal: Refusal::NONE,
+                header,
+            },
+            Err(e) => RecordHeaderRead {
+                refusal: Refusal::from(e),
+                header: RecordHeader {
+                    record_number: 0,
+                    content_length: Words(0),
+                },
+            },
+        }
+    }
+}
+
+impl From<Result<ShapeIndex, Short>> for IndexEntryRead {
+    ghost from_gives = { λ a r. r ≡ index_entry_read (said_entry a) };
+
+    fn from(a: Result<ShapeIndex, Short>) -> IndexEntryRead {
+        match a {
+            Ok(entry) => IndexEntryRead {
+                refusal: Refusal::NONE,
+                entry,
+            },
+            Err(e) => IndexEntryRead {
+                refusal: Refusal::from(e),
+                entry: ShapeIndex {
+                    offset: Words(0),
+                    content_length: Words(0),
+                },
+            },
+        }
     }
 }
 
 pub fn mbenaruul_read_header(bytes: &[u8]) -> HeaderRead
     ensures { result ≡ header_read (header_of bytes.now) }
 {
-    header_read(header::read_header(bytes))
-}
-
-fn record_header_read(a: RecordHeaderAnswer) -> RecordHeaderRead
-    ensures { result ≡ record_header_read (said_record a) }
-{
-    match a {
-        RecordHeaderAnswer::Whole(header) => RecordHeaderRead {
-            refusal: refusals::none(),
-            header,
-        },
-        RecordHeaderAnswer::Short(at, present) => RecordHeaderRead {
-            refusal: refusals::with_numbers(refusals::SHORT, at, present),
-            header: RecordHeader {
-                record_number: 0,
-                content_length: Words(0),
-            },
-        },
-    }
+    HeaderRead::from(header::read_header(bytes))
 }
 
 pub fn mbenaruul_read_record_header(bytes: &[u8]) -> RecordHeaderRead
     ensures { result ≡ record_header_read (two_of record_header bytes.now) }
 {
-    record_header_read(header::entries::read_record_header(bytes))
-}
-
-fn index_entry_read(a: ShapeIndexAnswer) -> IndexEntryRead
-    ensures { result ≡ index_entry_read (said_entry a) }
-{
-    match a {
-        ShapeIndexAnswer::Whole(entry) => IndexEntryRead {
-            refusal: refusals::none(),
-            entry,
-        },
-        ShapeIndexAnswer::Short(at, present) => IndexEntryRead {
-            refusal: refusals::with_numbers(refusals::SHORT, at, present),
-            entry: ShapeIndex {
-                offset: Words(0),
-                content_length: Words(0),
-            },
-        },
-    }
+    RecordHeaderRead::from(header::entries::read_record_header(bytes))
 }
 
 pub fn mbenaruul_read_index_entry(bytes: &[u8]) -> IndexEntryRead
     ensures { result ≡ index_entry_read (two_of shape_index bytes.now) }
 {
-    index_entry_read(header::entries::read_index_entry(bytes))
+    IndexEntryRead::from(header::entries::read_index_entry(bytes))
 }

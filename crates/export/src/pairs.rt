@@ -1,12 +1,14 @@
 // A .shp and its .shx, checked.
-ghost use Rattle.std.specs.Prelude.{◌≡◌};
+ghost use Rattle.std.specs.Prelude.{◌≡◌, Err};
 ghost use Rattle.pair.specs.Verdicts.{said_verdict};
 ghost use Rattle.export.specs.Pairs.{pair_checked, ChecksPair};
+ghost use Rattle.export.specs.Refusals.{refusal_of};
 
 use crate::refusals;
 use crate::refusals::Refusal;
-use pair::Verdict;
+use pair::Fault;
 
+// The checker's totals as C has them.
 #[repr(C)]
 #[derive(Clone, Copy)]
 pub struct Totals {
@@ -23,35 +25,41 @@ pub struct PairChecked {
     pub totals: Totals,
 }
 
-fn pair_checked(v: Verdict) -> PairChecked
-    ensures { result ≡ pair_checked (said_verdict v) }
-{
-    match v {
-        Verdict::Yes {
-            records,
-            parts,
-            points,
-        } => PairChecked {
-            refusal: refusals::none(),
-            totals: Totals {
-                records,
-                parts,
-                points,
+impl From<Fault> for Refusal {
+    ghost from_gives = { λ e r. r ≡ refusal_of (said_verdict (Err e)) };
+
+    fn from(e: Fault) -> Refusal {
+        Refusal::with_numbers(refusals::FAULT, e.rule, e.record)
+    }
+}
+
+impl From<Result<pair::Totals, Fault>> for PairChecked {
+    ghost from_gives = { λ a r. r ≡ pair_checked (said_verdict a) };
+
+    fn from(a: Result<pair::Totals, Fault>) -> PairChecked {
+        match a {
+            Ok(totals) => PairChecked {
+                refusal: Refusal::NONE,
+                totals: Totals {
+                    records: totals.records,
+                    parts: totals.parts,
+                    points: totals.points,
+                },
             },
-        },
-        Verdict::No { rule, record } => PairChecked {
-            refusal: refusals::with_numbers(refusals::FAULT, rule, record),
-            totals: Totals {
-                records: 0,
-                parts: 0,
-                points: 0,
+            Err(e) => PairChecked {
+                refusal: Refusal::from(e),
+                totals: Totals {
+                    records: 0,
+                    parts: 0,
+                    points: 0,
+                },
             },
-        },
+        }
     }
 }
 
 pub fn mbenaruul_check_pair(shp: &[u8], shx: &[u8]) -> PairChecked
     ensures { ChecksPair shp.now shx.now result }
 {
-    pair_checked(pair::check_pair(shp, shx))
+    PairChecked::from(pair::check_pair(shp, shx))
 }

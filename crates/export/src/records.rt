@@ -1,14 +1,14 @@
 // A record read from its content, into lent stores.
-ghost use Rattle.std.specs.Prelude.{◌≡◌};
-ghost use Rattle.record.specs.declared.Wanted.TheVariants.{Any, Kind};
+ghost use Rattle.std.specs.Prelude.{◌≡◌, Err};
 ghost use Rattle.record.specs.Reading.{null_shape, said_record};
 ghost use Rattle.export.specs.Records.{zero_point, zero_body, shape_read, record_read, Reads};
+ghost use Rattle.export.specs.Refusals.{not_refused, refusal_of};
 
 use crate::refusals;
 use crate::refusals::Refusal;
 use format::units::Bytes;
 use multipart::{BBox, Body, Range};
-use record::{Point, RecordAnswer, Wanted};
+use record::{Point, Record, RecordError};
 
 // The form is 0 for Null, 1 for a point, 2 for a shape with parts and 3 for a multipoint; has_m is 1 where one of the last two has m.
 #[repr(C)]
@@ -22,6 +22,30 @@ pub struct RecordRead {
     pub body: Body,
 }
 
+impl From<RecordError> for Refusal {
+    ghost from_gives = { λ e r. r ≡ refusal_of (said_record (Err e)) };
+
+    fn from(e: RecordError) -> Refusal {
+        match e {
+            RecordError::Short(short) => Refusal::from(short),
+            RecordError::Size(at) => Refusal::with_numbers(refusals::SIZE, at, 0),
+            RecordError::Unknown(code) => Refusal::with_codes(refusals::UNKNOWN, code, 0),
+            RecordError::Mismatch { wanted, found } => Refusal::with_codes(
+                refusals::MISMATCH,
+                wanted,
+                found,
+            ),
+            RecordError::Room { parts, points } => Refusal::with_numbers(
+                refusals::ROOM,
+                parts,
+                points,
+            ),
+            RecordError::NotTaken(code) => Refusal::with_codes(refusals::NOT_TAKEN, code, 0),
+        }
+    }
+}
+
+#[tactic(auto, using(format::proofs::NumberLaws::zero_bits))]
 fn no_point() -> Point
     ensures { result ≡ zero_point }
 {
@@ -33,6 +57,7 @@ fn no_point() -> Point
     }
 }
 
+#[tactic(auto, using(format::proofs::NumberLaws::zero_bits))]
 fn no_body() -> Body
     ensures { result ≡ zero_body }
 {
@@ -70,53 +95,34 @@ fn no_shape(refusal: Refusal) -> RecordRead
     }
 }
 
-fn record_read(a: RecordAnswer) -> RecordRead
-    ensures { result ≡ record_read (said_record a) }
-{
-    match a {
-        RecordAnswer::Null => no_shape(refusals::none()),
-        RecordAnswer::Point(code, point) => RecordRead {
-            refusal: refusals::none(),
-            code,
-            form: 1,
-            has_m: 0,
-            point,
-            body: no_body(),
-        },
-        RecordAnswer::Multipoint(code, m, body) => RecordRead {
-            refusal: refusals::none(),
-            code,
-            form: 3,
-            has_m: m as u32,
-            point: no_point(),
-            body,
-        },
-        RecordAnswer::Parts(code, m, body) => RecordRead {
-            refusal: refusals::none(),
-            code,
-            form: 2,
-            has_m: m as u32,
-            point: no_point(),
-            body,
-        },
-        RecordAnswer::Short(at, present) => no_shape(refusals::with_numbers(
-            refusals::SHORT,
-            at,
-            present,
-        )),
-        RecordAnswer::Size(at) => no_shape(refusals::with_number(refusals::SIZE, at)),
-        RecordAnswer::Unknown(code) => no_shape(refusals::with_code(refusals::UNKNOWN, code)),
-        RecordAnswer::Mismatch(wanted, found) => no_shape(refusals::with_codes(
-            refusals::MISMATCH,
-            wanted,
-            found,
-        )),
-        RecordAnswer::Room(parts, points) => no_shape(refusals::with_numbers(
-            refusals::ROOM,
-            parts,
-            points,
-        )),
-        RecordAnswer::NotTaken(code) => no_shape(refusals::with_code(refusals::NOT_TAKEN, code)),
+impl From<Result<Record, RecordError>> for RecordRead {
+    ghost from_gives = { λ a r. r ≡ record_read (said_record a) };
+
+    fn from(a: Result<Record, RecordError>) -> RecordRead {
+        match a {
+            Ok(Record::Null) => no_shape(Refusal::NONE),
+            Ok(Record::Point(code, point)) => RecordRead {
+                code,
+                form: 1,
+                point,
+                ..no_shape(Refusal::NONE)
+            },
+            Ok(Record::Multipoint(code, m, body)) => RecordRead {
+                code,
+                form: 3,
+                has_m: u32::from(m),
+                body,
+                ..no_shape(Refusal::NONE)
+            },
+            Ok(Record::Parts(code, m, body)) => RecordRead {
+                code,
+                form: 2,
+                has_m: u32::from(m),
+                body,
+                ..no_shape(Refusal::NONE)
+            },
+            Err(e) => no_shape(Refusal::from(e)),
+        }
     }
 }
 
@@ -130,9 +136,9 @@ pub fn mbenaruul_read_record(
     z: &mut [f64],
     m: &mut [f64],
 ) -> RecordRead
-    ensures { Reads Any size content.now counts.old x.old y.old z.old m.old result counts.new x.new y.new z.new m.new }
+    ensures { Reads None size content.now counts.old x.old y.old z.old m.old result counts.new x.new y.new z.new m.new }
 {
-    record_read(record::read_record(content, Bytes(size), Wanted::Any, counts, x, y, z, m))
+    RecordRead::from(record::read_record(content, Bytes(size), None, counts, x, y, z, m))
 }
 
 // One kind only.
@@ -146,12 +152,12 @@ pub fn mbenaruul_read_record_of(
     z: &mut [f64],
     m: &mut [f64],
 ) -> RecordRead
-    ensures { Reads (Kind wanted) size content.now counts.old x.old y.old z.old m.old result counts.new x.new y.new z.new m.new }
+    ensures { Reads (Some wanted) size content.now counts.old x.old y.old z.old m.old result counts.new x.new y.new z.new m.new }
 {
-    record_read(record::read_record(
+    RecordRead::from(record::read_record(
         content,
         Bytes(size),
-        Wanted::Kind(wanted),
+        Some(wanted),
         counts,
         x,
         y,

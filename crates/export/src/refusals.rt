@@ -1,7 +1,10 @@
 // A refusal as C has it: document 01's number, and its values. What a refusal does not have is 0, and so is all where none is.
 ghost use Rattle.std.specs.Prelude.{◌≡◌, [], ◌∷◌, pos};
-ghost use Rattle.export.specs.Refusals.{refusal, not_refused};
+ghost use Rattle.export.specs.Refusals.{refusal};
 
+use format::shapes::Short;
+
+// The numbers are what crosses to C, so they are no enum.
 pub(crate) const SHORT: u32 = 1;
 
 pub(crate) const CODE: u32 = 2;
@@ -30,55 +33,40 @@ pub struct Refusal {
     pub second: u64,
 }
 
-pub(crate) fn none() -> Refusal
-    ensures { result ≡ not_refused }
-{
-    Refusal {
+impl Refusal {
+    pub(crate) const NONE: Refusal = Refusal {
         number: 0,
         first: 0,
         second: 0,
+    };
+
+    // An offset, how many bytes, or both; how many parts and points; 0, where document 01 returns 0.
+    pub(crate) fn with_numbers(number: u32, first: usize, second: usize) -> Refusal
+        ensures { result ≡ refusal number (pos first ∷ pos second ∷ []) }
+    {
+        Refusal {
+            number,
+            first: first as u64,
+            second: second as u64,
+        }
+    }
+
+    // A code crosses as its 32 bits.
+    pub(crate) fn with_codes(number: u32, first: i32, second: i32) -> Refusal
+        ensures { result ≡ refusal number (first ∷ second ∷ []) }
+    {
+        Refusal {
+            number,
+            first: fields::unsigned(first),
+            second: fields::unsigned(second),
+        }
     }
 }
 
-// An offset, or how many bytes; 0, where document 01 returns 0.
-pub(crate) fn with_number(number: u32, value: usize) -> Refusal
-    ensures { result ≡ refusal number (pos value ∷ []) }
-{
-    Refusal {
-        number,
-        first: value as u64,
-        second: 0,
-    }
-}
+impl From<Short> for Refusal {
+    ghost from_gives = { λ e r. r ≡ refusal 1 (pos e.at ∷ pos e.present ∷ []) };
 
-// An offset and how many bytes, or how many parts and points.
-pub(crate) fn with_numbers(number: u32, first: usize, second: usize) -> Refusal
-    ensures { result ≡ refusal number (pos first ∷ pos second ∷ []) }
-{
-    Refusal {
-        number,
-        first: first as u64,
-        second: second as u64,
-    }
-}
-
-// A code crosses as its 32 bits.
-pub(crate) fn with_code(number: u32, code: i32) -> Refusal
-    ensures { result ≡ refusal number (code ∷ []) }
-{
-    Refusal {
-        number,
-        first: fields::unsigned(code),
-        second: 0,
-    }
-}
-
-pub(crate) fn with_codes(number: u32, first: i32, second: i32) -> Refusal
-    ensures { result ≡ refusal number (first ∷ second ∷ []) }
-{
-    Refusal {
-        number,
-        first: fields::unsigned(first),
-        second: fields::unsigned(second),
+    fn from(e: Short) -> Refusal {
+        Refusal::with_numbers(SHORT, e.at, e.present)
     }
 }

@@ -1,15 +1,16 @@
 // Writing a pair record by record: the caller keeps the state between the calls.
-ghost use Rattle.std.specs.Prelude.{◌≡◌};
+ghost use Rattle.std.specs.Prelude.{◌≡◌, Err};
 ghost use Rattle.writer.specs.Adding.{lent, said_add};
 ghost use Rattle.writer.specs.Finishing.{said_finish};
 ghost use Rattle.writer.specs.State.{fresh};
 ghost use Rattle.export.specs.Refusals.{refusal_of};
-ghost use Rattle.export.specs.Writing.{not_added, added, added_with, AddsRecord, finished};
+ghost use Rattle.export.specs.Writing.{written, added, added_with, AddsRecord, headers_finished, finished};
 
 use crate::refusals;
 use crate::refusals::Refusal;
+use format::shapes::Tables;
 use header::bbox::BBoxZ;
-use writer::{AddAnswer, FinishAnswer, State};
+use writer::{AddError, Adding, Headers, NoState, State};
 
 // How many bytes the record took, and the state for the next one; a refusal returns the state that it was given.
 #[repr(C)]
@@ -37,48 +38,94 @@ pub struct Finished {
     pub shx: [u8; 100],
 }
 
+impl From<AddError> for Refusal {
+    ghost from_gives = { λ e r. r ≡ refusal_of (said_add (Err e)) };
+
+    fn from(e: AddError) -> Refusal {
+        match e {
+            AddError::Size => Refusal::with_numbers(refusals::SIZE, 0, 0),
+            AddError::Unknown(code) => Refusal::with_codes(refusals::UNKNOWN, code, 0),
+            AddError::NotTaken(code) => Refusal::with_codes(refusals::NOT_TAKEN, code, 0),
+            AddError::Mismatch { held, found } => Refusal::with_codes(
+                refusals::MISMATCH,
+                held,
+                found,
+            ),
+            AddError::Tables => Refusal::with_numbers(refusals::TABLES, 0, 0),
+            AddError::Long => Refusal::with_numbers(refusals::LONG, 0, 0),
+            AddError::Room(bytes) => Refusal::with_numbers(refusals::ROOM, bytes, 0),
+        }
+    }
+}
+
+impl From<NoState> for Refusal {
+    ghost from_gives = { λ e r. r ≡ refusal_of (said_finish (Err e)) };
+
+    fn from(_e: NoState) -> Refusal {
+        Refusal::with_numbers(refusals::SIZE, 0, 0)
+    }
+}
+
+impl From<Result<usize, AddError>> for Written {
+    ghost from_gives = { λ a w. w ≡ written (said_add a) };
+
+    fn from(a: Result<usize, AddError>) -> Written {
+        match a {
+            Ok(bytes) => Written {
+                refusal: Refusal::NONE,
+                bytes,
+            },
+            Err(e) => Written {
+                refusal: Refusal::from(e),
+                bytes: 0,
+            },
+        }
+    }
+}
+
+impl From<Adding> for Added {
+    ghost from_gives = { λ a r. r ≡ added (said_add a.answer) a.state };
+
+    fn from(a: Adding) -> Added {
+        let written = Written::from(a.answer);
+        Added {
+            refusal: written.refusal,
+            bytes: written.bytes,
+            state: a.state,
+        }
+    }
+}
+
+impl From<Result<Headers, NoState>> for Finished {
+    ghost from_gives = { λ a r. r ≡ headers_finished (said_finish a) };
+
+    fn from(a: Result<Headers, NoState>) -> Finished {
+        match a {
+            Ok(headers) => {
+                let shp = headers.shp;
+                let shx = headers.shx;
+                Finished {
+                    refusal: Refusal::NONE,
+                    shp,
+                    shx,
+                }
+            }
+            Err(e) => Finished {
+                refusal: Refusal::from(e),
+                shp: [0; 100],
+                shx: [0; 100],
+            },
+        }
+    }
+}
+
 pub fn mbenaruul_new() -> State
     ensures { result ≡ fresh }
 {
     State::new()
 }
 
-fn not_added(refusal: Refusal, state: State) -> Added
-    ensures { result ≡ not_added refusal state }
-{
-    Added {
-        refusal,
-        bytes: 0,
-        state,
-    }
-}
-
-// The answer, with the state after the call.
-fn add_answer(a: AddAnswer, state: State) -> Added
-    ensures { result ≡ added (said_add a) state }
-{
-    match a {
-        AddAnswer::Added(bytes) => Added {
-            refusal: refusals::none(),
-            bytes,
-            state,
-        },
-        AddAnswer::Size => not_added(refusals::with_number(refusals::SIZE, 0), state),
-        AddAnswer::Unknown(code) => not_added(refusals::with_code(refusals::UNKNOWN, code), state),
-        AddAnswer::NotTaken(code) => not_added(
-            refusals::with_code(refusals::NOT_TAKEN, code),
-            state,
-        ),
-        AddAnswer::Mismatch(wanted, found) => not_added(
-            refusals::with_codes(refusals::MISMATCH, wanted, found),
-            state,
-        ),
-        AddAnswer::Tables => not_added(refusals::with_number(refusals::TABLES, 0), state),
-        AddAnswer::Long => not_added(refusals::with_number(refusals::LONG, 0), state),
-        AddAnswer::Room(bytes) => not_added(refusals::with_number(refusals::ROOM, bytes), state),
-    }
-}
-
+// C lends each table apart.
 pub fn mbenaruul_add_record(
     state: State,
     code: i32,
@@ -94,10 +141,14 @@ pub fn mbenaruul_add_record(
 ) -> Added
     ensures { AddsRecord state (lent code bbox counts.now x.now y.now z.now m.now) out.old start entry.old result out.new entry.new }
 {
-    let r = writer::add_record(state, code, bbox, counts, x, y, z, m, out, start, entry);
-    let answer = r.answer;
-    let after = r.state;
-    add_answer(answer, after)
+    let tables = Tables {
+        counts,
+        xs: x,
+        ys: y,
+        zs: z,
+        ms: m,
+    };
+    Added::from(writer::add_record(state, code, bbox, &tables, out, start, entry))
 }
 
 // The same over a state that is lent, and advanced by the call; a refusal leaves it as it is.
@@ -116,34 +167,18 @@ pub fn mbenaruul_write_shape(
 ) -> Written
     ensures { AddsRecord state.old (lent code bbox counts.now x.now y.now z.now m.now) out.old start entry.old (added_with result state.new) out.new entry.new }
 {
-    let s = *state;
-    let r = mbenaruul_add_record(s, code, bbox, counts, x, y, z, m, out, start, entry);
-    *state = r.state;
-    Written {
-        refusal: r.refusal,
-        bytes: r.bytes,
-    }
-}
-
-fn finish_refusal(a: FinishAnswer) -> Refusal
-    ensures { result ≡ refusal_of (said_finish a) }
-{
-    match a {
-        FinishAnswer::Finished => refusals::none(),
-        FinishAnswer::Size => refusals::with_number(refusals::SIZE, 0),
-    }
+    let tables = Tables {
+        counts,
+        xs: x,
+        ys: y,
+        zs: z,
+        ms: m,
+    };
+    Written::from(writer::write_shape(state, code, bbox, &tables, out, start, entry))
 }
 
 pub fn mbenaruul_finish(state: State) -> Finished
     ensures { result ≡ finished state }
 {
-    let r = writer::finish(state);
-    let answer = r.answer;
-    let shp = r.shp;
-    let shx = r.shx;
-    Finished {
-        refusal: finish_refusal(answer),
-        shp,
-        shx,
-    }
+    Finished::from(writer::finish(state))
 }

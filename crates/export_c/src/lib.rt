@@ -5,7 +5,6 @@
 ghost use Rattle.std.specs.Prelude.{◌≡◌};
 ghost use Rattle.header.specs.Reading.{header_of};
 ghost use Rattle.header.specs.Entries.{two_of, record_header, shape_index};
-ghost use Rattle.record.specs.declared.Wanted.TheVariants.{Any, Kind};
 ghost use Rattle.rings.specs.Answers.{closed_of, turning_of};
 ghost use Rattle.writer.specs.Adding.{lent};
 ghost use Rattle.writer.specs.State.{fresh};
@@ -56,7 +55,7 @@ pub extern "C" fn mbenaruul_read_record(
     z: &mut [f64],
     m: &mut [f64],
 ) -> RecordRead
-    ensures { Reads Any size content.now counts.old x.old y.old z.old m.old result counts.new x.new y.new z.new m.new }
+    ensures { Reads None size content.now counts.old x.old y.old z.old m.old result counts.new x.new y.new z.new m.new }
 {
     records::mbenaruul_read_record(content, size, counts, x, y, z, m)
 }
@@ -73,7 +72,7 @@ pub extern "C" fn mbenaruul_read_record_of(
     z: &mut [f64],
     m: &mut [f64],
 ) -> RecordRead
-    ensures { Reads (Kind wanted) size content.now counts.old x.old y.old z.old m.old result counts.new x.new y.new z.new m.new }
+    ensures { Reads (Some wanted) size content.now counts.old x.old y.old z.old m.old result counts.new x.new y.new z.new m.new }
 {
     records::mbenaruul_read_record_of(wanted, content, size, counts, x, y, z, m)
 }
