@@ -1,5 +1,3 @@
--- What the proofs of several functions use, and the theorems on refusals: on the number, and on what was cut.
-mod CodeLaws
+-- The theorems on refusals: on the number, and on what was cut.
 pub mod CutTells
 pub mod NumberTells
-mod RecordLaws

@@ -154,14 +154,5 @@ pub fn mbenaruul_read_record_of(
 ) -> RecordRead
     ensures { Reads (Some wanted) size content.now counts.old x.old y.old z.old m.old result counts.new x.new y.new z.new m.new }
 {
-    RecordRead::from(record::read_record(
-        content,
-        Bytes(size),
-        Some(wanted),
-        counts,
-        x,
-        y,
-        z,
-        m,
-    ))
+    RecordRead::from(record::read_record(content, Bytes(size), Some(wanted), counts, x, y, z, m))
 }
