@@ -1,7 +1,7 @@
 -- Rings: a run is answered as the same run taken apart, and closing leaves the same points.
 use mathlib.Core.Path.{◌≡◌, refl, sym, ap, ap₂, ◌∙◌}
 use mathlib.Core.Bool.{Bool, true, false, cond, ◌&&◌}
-use mathlib.Core.List.{List, [], ◌∷◌, ◌++◌}
+use mathlib.Core.List.{List, [], ◌∷◌}
 use Prim.Native.Nat.{ℕ, ◌*◌, ◌%◌, ◌≤◌}
 use native.Mathlib.Omega.{arith}
 use lib.Dec.{leb, eqb}
@@ -9,32 +9,16 @@ use lib.Ieee.{Float}
 use lib.ListN.{length, take, length-map}
 use lib.Seq.{sets, take_all}
 use borrow.Author.Tests.{eq-eqb, eqb-true, eqb-false, le-leb, lt-leb}
-use Rattle.format.specs.Order.{first}
 use Rattle.format.specs.Said.{Said, gives, room, tables, unless_refused}
-use Rattle.rings.specs.Answers.{run_of, run_tests, of_run, said_closing, closed_of, turning_of, count_then, closing_of}
+use Rattle.rings.specs.Answers.{run_of, of_run, said_closing, count_then, closing_of}
 use Rattle.rings.specs.Points.{Point, points, x_of, y_of, closed, appended, turning}
+use Rattle.rings.proofs.Equations.{closed-of, turning-of, closing-of}
 use Rattle.rings.proofs.PointLaws.{points_none, points_end, points_one_more}
 use Rattle.apart.specs.Apart.{Rings}
 use Rattle.apart.specs.OldRings as Old
 use Rattle.apart.specs.Pairs.{all_x, all_y, together}
 use Rattle.apart.proofs.Lists.{length-x, length-y, length-together, take_apart, take-together, sets_apart, sets-together}
 use Rattle.apart.proofs.Tests.{Halves, apart_halves, together_halves, unless_one, unless_two}
-
--- ---- what today's calls say
-
-module _ (xs ys : List Float) (n : ℕ) where
-  closed-of : closed_of xs ys n ≡ of_run closed xs ys n
-  unfolding closed_of
-  closed-of = refl
-
-  turning-of : turning_of xs ys n ≡ of_run turning xs ys n
-  unfolding turning_of
-  turning-of = refl
-
-  closing-of : closing_of xs ys n
-      ≡ first (run_tests xs ys n ++ ((leb (count_then (run_of xs ys n)) (length xs) && leb (count_then (run_of xs ys n)) (length ys), room 0 (count_then (run_of xs ys n))) ∷ [])) (gives (count_then (run_of xs ys n)))
-  unfolding closing_of
-  closing-of = refl
 
 -- ---- points
 
