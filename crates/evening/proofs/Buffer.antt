@@ -12,7 +12,7 @@ use Rattle.writer.proofs.Given.{record_behind}
 use Rattle.series.specs.Series.{Add}
 use Rattle.series.specs.Taken.{AddMade, taken}
 use Rattle.series.proofs.After.{from_fresh}
-use Rattle.evening.specs.Evening.{record_given, up_to, InOneBuffer, front_after, OneBufferIsIt}
+use Rattle.evening.specs.Evening.{shp_front, record_given, up_to, InOneBuffer, front_after, OneBufferIsIt}
 use Rattle.evening.proofs.Kept.{given_more, is-added, record_is}
 
 -- ---- the last add of several
@@ -51,4 +51,4 @@ module _ (added : List Add) (s : State) (a : Add) (n : ℕ) (h : Fronts added s)
 pub one_buffer_is_it : OneBufferIsIt
 one_buffer_is_it calls last front v e b =
     let whole = from_fresh Fronts fronts_more fresh_fronts calls v.made front b in
-    ap (◌++◌ last.shp) (ap (drop 100) whole ∙ drop_at front (flatten (map record_given (taken calls))) 100 e)
+    ap (◌++◌ (shp_front last)) (ap (drop 100) whole ∙ drop_at front (flatten (map record_given (taken calls))) 100 e)

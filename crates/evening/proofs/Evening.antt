@@ -21,16 +21,13 @@ use Rattle.boxes.specs.Boxes.{settled}
 use Rattle.boxes.proofs.BoxLaws.{zero-box-bits}
 use Rattle.boxes.proofs.FiniteBoxes.{bits-finite, settled-finite}
 use Rattle.rules.specs.Meaning.{AllWellFormed, TakenKind, all_parts, all_points, FileOf, Encoded}
-use Rattle.pair.specs.declared.Verdict.TheVariants.{Yes}
+use Rattle.std.specs.Prelude.{Ok}
 use Rattle.pair.proofs.SaidLaws.{said_verdict_one}
 use Rattle.writer.specs.declared.State.{State}
-use Rattle.writer.specs.declared.Finishing.{Finishing}
-use Rattle.writer.specs.declared.FinishAnswer.{FinishAnswer}
-use Rattle.writer.specs.declared.FinishAnswer.TheVariants.{Finished, Size}
 use Rattle.writer.specs.Adding.{said_add}
-use Rattle.writer.specs.Finishing.{shp_header, shx_header, Finishes}
+use Rattle.writer.specs.Finishing.{shp_header, shx_header, headers_of, Finishes}
 use Rattle.writer.specs.State.{fresh, state_fine}
-use Rattle.writer.proofs.Accepted.{kind-there, never_finishing}
+use Rattle.writer.proofs.Accepted.{kind-there, finished-is}
 use Rattle.writer.proofs.StateLaws.{fine}
 use Rattle.appending.specs.Files.{NullWithout}
 use Rattle.appending.specs.OneMore.{KindBehind}
@@ -38,24 +35,20 @@ use Rattle.appending.proofs.ToFile.{pair-behind}
 use Rattle.series.specs.Series.{Add, Call, adds, finishes, Made, state_after, accepted}
 use Rattle.series.specs.Taken.{taken, shapes_taken, first_kind}
 use Rattle.series.proofs.After.{accepted_taken}
-use Rattle.evening.specs.Evening.{Evening, record_given, entry_given, shp_file, shx_file, state_of, box_of, EachIsWritten, EachWellFormed, EachIsChecked, NoneIsEmpty, only_adds, HalfwayIsNothing, HalfwayIsEvening}
+use Rattle.evening.specs.Evening.{Finishing, Evening, record_given, entry_given, shp_front, shx_front, shp_file, shx_file, state_of, box_of, EachIsWritten, EachWellFormed, totals, EachIsChecked, NoneIsEmpty, only_adds, HalfwayIsNothing, HalfwayIsEvening}
 use Rattle.evening.proofs.Kept.{kept}
 
 -- ---- the last finishing
 
-not_size : (a : FinishAnswer) → (a ≡ Size → ⊥) → a ≡ Finished
-not_size Finished h = refl
-not_size Size h = absurd (h refl)
-
 module _ (s : State) (f : state_fine s ≡ true) (last : Finishing) (c : Finishes s last) where
-  finished : last.answer ≡ Finished
-  finished = not_size last.answer (never_finishing s last.answer f c.says)
+  finished : last ≡ Ok (headers_of s)
+  finished = finished-is s last f c
 
-  shp_front : last.shp ≡ shp_header s
-  shp_front = c.shp_is ∙ rw f
+  shp-front : shp_front last ≡ shp_header s
+  shp-front = ap shp_front finished
 
-  shx_front : last.shx ≡ shx_header s
-  shx_front = c.shx_is ∙ rw f
+  shx-front : shx_front last ≡ shx_header s
+  shx-front = ap shx_front finished
 
 -- ---- the two files
 
@@ -68,13 +61,13 @@ each_is_written calls last v =
     let shapes = shapes_taken (taken calls) in
     record {
       state = k.state;
-      not_refused = finished s b.1 last v.finished;
+      not_refused = rw (finished s b.1 last v.finished);
       pair =
           subst (λ (l : List Shape). IsPair kind (box_of calls) l (shp_file calls last) (shx_file calls last)) (sym (accepted_taken calls))
           (subst (λ (r : State). IsPair kind (box_bits (settled r.bbox)) shapes (shp_file calls last) (shx_file calls last)) k.state
           (pair_same kind _ shapes _ _ _ _ (pair-behind kind shapes s b.0 b.1)
-          (sym (ap₂ ◌++◌ (shp_front s b.1 last v.finished) k.records_are))
-          (sym (ap₂ ◌++◌ (shx_front s b.1 last v.finished) k.entries_are))));
+          (sym (ap₂ ◌++◌ (shp-front s b.1 last v.finished) k.records_are))
+          (sym (ap₂ ◌++◌ (shx-front s b.1 last v.finished) k.entries_are))));
     }
 
 -- ---- the checker's yes
@@ -104,7 +97,7 @@ module _ (calls : List Call) (last : Finishing) (v : Evening calls last) (w : Ea
   encoded = record { kind = _; box = _; shapes = accepted calls; file = file_of; records = refl; parts = refl; points = refl }
 
 pub each_is_checked : EachIsChecked
-each_is_checked calls last v w = record { file = file_of calls last v w; yes = λ r c. said_verdict_one r (Yes _ _ _) (c.means.always _ (encoded calls last v w)) }
+each_is_checked calls last v w = record { file = file_of calls last v w; yes = λ r c. said_verdict_one r (Ok _) (c.means.always _ (encoded calls last v w)) }
 
 -- ---- an evening without an accepted add
 
@@ -121,7 +114,7 @@ none_is_empty calls last v e =
           (subst (λ (l : List Shape). IsPair (first_kind (taken calls)) (box_of calls) l shp shx) none (each_is_written calls last v).pair));
       yes = λ r c.
           (each_is_checked calls last v fine).yes r c
-          ∙ ap (λ (l : List Shape). Yes (length l) (all_parts l) (all_points l)) none;
+          ∙ ap (λ (l : List Shape). Ok (totals (length l) (all_parts l) (all_points l))) none;
     }
 
 -- ---- finishings taken out
@@ -148,8 +141,8 @@ halfway_is_nothing calls last v =
     let theirs : (last' : Finishing) → Evening (only_adds calls) last' → Finishes s last' = λ l u. subst (λ (r : State). Finishes r l) (state-only calls fresh) u.finished in
     record {
       made = made-only calls fresh v.made;
-      same_shp = λ l u. ap₂ (λ (h : List ℕ) (t : List Add). h ++ flatten (map record_given t)) (shp_front s f l (theirs l u) ∙ sym (shp_front s f last v.finished)) (taken-only calls);
-      same_shx = λ l u. ap₂ (λ (h : List ℕ) (t : List Add). h ++ flatten (map entry_given t)) (shx_front s f l (theirs l u) ∙ sym (shx_front s f last v.finished)) (taken-only calls);
+      same_shp = λ l u. ap₂ (λ (h : List ℕ) (t : List Add). h ++ flatten (map record_given t)) (shp-front s f l (theirs l u) ∙ sym (shp-front s f last v.finished)) (taken-only calls);
+      same_shx = λ l u. ap₂ (λ (h : List ℕ) (t : List Add). h ++ flatten (map entry_given t)) (shx-front s f l (theirs l u) ∙ sym (shx-front s f last v.finished)) (taken-only calls);
     }
 
 -- ---- a finishing among the calls

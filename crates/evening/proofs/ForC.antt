@@ -1,20 +1,21 @@
 -- The calls for C and Rust are calls of a series.
 use mathlib.Core.Path.{◌≡◌, refl, sym, ap, ◌∙◌}
-use mathlib.Core.Bool.{cond}
+use mathlib.Core.Bool.{Bool, true, false}
 use Prim.Native.Nat.{ℕ}
-use lib.ListN.{length, replicate}
+use lib.ListN.{length}
 use lib.Seq.{sets}
 use Rattle.format.specs.Said.{Said, gives, refuses, unless_refused}
 use Rattle.writer.specs.Adding.{record_of, entry_of, next_state, adding}
-use Rattle.writer.specs.Finishing.{shp_header, shx_header}
+use Rattle.std.specs.Prelude.{Ok, Err}
+use Rattle.writer.specs.Finishing.{headers_of}
 use Rattle.writer.specs.State.{state_fine}
-use Rattle.writer.proofs.Determined.{add_answer, finish-answer}
+use Rattle.writer.proofs.Determined.{add_answer}
 use Rattle.export.specs.declared.writing.Added.{Added}
 use Rattle.export.specs.declared.writing.Finished.{Finished}
 use Rattle.export.specs.Refusals.{refusal_of, or_else}
 use Rattle.export.specs.Writing.{said_of}
 use Rattle.evening.specs.Evening.{bytes_said}
-use Rattle.evening.specs.ForC.{AddsForC, FinishesForC}
+use Rattle.evening.specs.ForC.{AddsForC, IsFinishing, FinishesForC}
 
 given-bytes : (said : Said ℕ) → or_else 0 said ≡ bytes_said said
 given-bytes (gives n) = refl
@@ -39,11 +40,8 @@ adds_for_c s t out start entry r out' entry' c =
     }
 
 pub finishes_for_c : FinishesForC
-finishes_for_c s r e =
-    let a = finish-answer (state_fine s) in
-    record {
-      back = record { answer = a.0; shp = cond (state_fine s) (shp_header s) (replicate 100 0); shx = cond (state_fine s) (shx_header s) (replicate 100 0) };
-      finishes = record { says = a.1; shp_is = refl; shx_is = refl };
-      shp_is = ap (λ (x : Finished). x.shp) e;
-      shx_is = ap (λ (x : Finished). x.shx) e;
-    }
+finishes_for_c s r e = by (state_fine s) refl
+  where
+    by : (b : Bool) → state_fine s ≡ b → IsFinishing s r
+    by true f = record { back = Ok (headers_of s); finishes = record { says = rw f }; shp_is = ap (λ (x : Finished). x.shp) e ∙ rw f; shx_is = ap (λ (x : Finished). x.shx) e ∙ rw f }
+    by false f = record { back = Err (record {}); finishes = record { says = rw f }; shp_is = ap (λ (x : Finished). x.shp) e ∙ rw f; shx_is = ap (λ (x : Finished). x.shx) e ∙ rw f }

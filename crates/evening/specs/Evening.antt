@@ -4,7 +4,7 @@
 --
 -- All of it is about public calls: `Adds` is what `add_record` promises, with the state by value, and `write_shape`, with the state lent; `Finishes` is
 -- what `finish` promises, and `Checks` what `check_pair` does.
-use Rattle.std.specs.Prelude.{◌≡◌, ℕ, ◌+◌, length, take, drop}
+use Rattle.std.specs.Prelude.{◌≡◌, ℕ, ◌+◌, length, take, drop, replicate, Result, Ok, Err, IsOk}
 use mathlib.Core.List.{List, [], ◌∷◌, ◌++◌, map, flatten}
 use Rattle.format.specs.declared.kinds.Kind.{Kind}
 use Rattle.format.specs.Bytes.{field}
@@ -16,12 +16,12 @@ use Rattle.format.specs.WellFormed.{WellFormed}
 use Rattle.header.specs.Box.{box_bits}
 use Rattle.boxes.specs.Boxes.{settled}
 use Rattle.rules.specs.Meaning.{all_parts, all_points, FileOf}
-use Rattle.pair.specs.declared.Verdict.{Verdict}
-use Rattle.pair.specs.declared.Verdict.TheVariants.{Yes}
+use Rattle.pair.specs.declared.Fault.{Fault}
+use Rattle.pair.specs.declared.Totals.{Totals}
 use Rattle.pair.specs.Verdicts.{Checks}
 use Rattle.writer.specs.declared.State.{State}
-use Rattle.writer.specs.declared.Finishing.{Finishing}
-use Rattle.writer.specs.declared.FinishAnswer.TheVariants.{Finished}
+use Rattle.writer.specs.declared.Headers.{Headers}
+use Rattle.writer.specs.declared.NoState.{NoState}
 use Rattle.writer.specs.Adding.{said_add, next_state}
 use Rattle.writer.specs.Finishing.{Finishes}
 use Rattle.writer.specs.State.{fresh}
@@ -29,6 +29,10 @@ use Rattle.series.specs.Series.{Add, Call, adds, finishes, Made, state_after, ac
 use Rattle.series.specs.Taken.{taken, first_kind}
 
 -- ---- what the caller does
+
+-- what a finishing gives
+abbrev pub Finishing : Type 0
+Finishing = Result Headers NoState
 
 -- an evening: a series of calls from a fresh state, each by its contract, and a last finishing
 pub record Evening (calls : List Call) (last : Finishing) : Type 0 where
@@ -47,12 +51,21 @@ record_given a = field (bytes_said (said_add a.back.answer)) a.start a.out'
 abbrev pub entry_given : Add → List ℕ
 entry_given a = field 8 0 a.entry'
 
+-- the header of each file, or zeros of a finishing that is refused
+abbrev pub shp_front : Finishing → List ℕ
+shp_front (Ok headers) = headers.shp
+shp_front (Err refusal) = replicate 100 0
+
+abbrev pub shx_front : Finishing → List ℕ
+shx_front (Ok headers) = headers.shx
+shx_front (Err refusal) = replicate 100 0
+
 -- the two files
 abbrev pub shp_file : List Call → Finishing → List ℕ
-shp_file calls last = last.shp ++ flatten (map record_given (taken calls))
+shp_file calls last = shp_front last ++ flatten (map record_given (taken calls))
 
 abbrev pub shx_file : List Call → Finishing → List ℕ
-shx_file calls last = last.shx ++ flatten (map entry_given (taken calls))
+shx_file calls last = shx_front last ++ flatten (map entry_given (taken calls))
 
 -- ---- 1. what they are
 
@@ -69,7 +82,7 @@ box_of calls = box_bits (settled (state_of fresh (taken calls)).bbox)
 -- shapes, in order, with the kind of the first of them and that box.
 pub record Written (calls : List Call) (last : Finishing) : Type 0 where
   pub state : state_after fresh calls ≡ state_of fresh (taken calls)
-  pub not_refused : last.answer ≡ Finished
+  pub not_refused : IsOk last
   pub pair : IsPair (first_kind (taken calls)) (box_of calls) (accepted calls) (shp_file calls last) (shx_file calls last)
 
 abbrev pub EachIsWritten : Type 0
@@ -81,11 +94,14 @@ abbrev pub EachWellFormed : Kind → List Shape → Type 0
 EachWellFormed k [] = Unit {0}
 EachWellFormed k (s ∷ ss) = WellFormed k s × EachWellFormed k ss
 
+abbrev pub totals : ℕ → ℕ → ℕ → Totals
+totals records parts points = record { records = records; parts = parts; points = points }
+
 -- The files are those of a taken kind with well-formed shapes and a finite box, and the checker says yes with their counts.
 pub record Checked (calls : List Call) (last : Finishing) : Type 0 where
   pub file : FileOf (first_kind (taken calls)) (box_of calls) (accepted calls) (shp_file calls last) (shx_file calls last)
-  pub yes : (v : Verdict) → Checks (shp_file calls last) (shx_file calls last) v
-      → v ≡ Yes (length (accepted calls)) (all_parts (accepted calls)) (all_points (accepted calls))
+  pub yes : (v : Result Totals Fault) → Checks (shp_file calls last) (shx_file calls last) v
+      → v ≡ Ok (totals (length (accepted calls)) (all_parts (accepted calls)) (all_points (accepted calls)))
 
 -- wherever the accepted shapes are all well-formed
 abbrev pub EachIsChecked : Type 0
@@ -100,7 +116,7 @@ zeros = record { xmin = 0; ymin = 0; xmax = 0; ymax = 0; zmin = 0; zmax = 0; mmi
 -- the empty pair of kind 0, which is also a yes
 pub record Empty (calls : List Call) (last : Finishing) : Type 0 where
   pub pair : IsPair null_kind zeros [] (shp_file calls last) (shx_file calls last)
-  pub yes : (v : Verdict) → Checks (shp_file calls last) (shx_file calls last) v → v ≡ Yes 0 0 0
+  pub yes : (v : Result Totals Fault) → Checks (shp_file calls last) (shx_file calls last) v → v ≡ Ok (totals 0 0 0)
 
 abbrev pub NoneIsEmpty : Type 0
 NoneIsEmpty = (calls : List Call) (last : Finishing) → Evening calls last → taken calls ≡ [] → Empty calls last
@@ -147,4 +163,4 @@ front_after front (a ∷ added) = front_after (up_to a) added
 abbrev pub OneBufferIsIt : Type 0
 OneBufferIsIt =
     (calls : List Call) (last : Finishing) (front : List ℕ) → Evening calls last → length front ≡ 100 → InOneBuffer front (taken calls)
-    → last.shp ++ drop 100 (front_after front (taken calls)) ≡ shp_file calls last
+    → shp_front last ++ drop 100 (front_after front (taken calls)) ≡ shp_file calls last

@@ -3,14 +3,13 @@
 use Rattle.std.specs.Prelude.{◌≡◌, List, ℕ}
 use Rattle.writer.specs.declared.State.{State}
 use Rattle.writer.specs.declared.Adding.{Adding}
-use Rattle.writer.specs.declared.Finishing.{Finishing}
 use Rattle.writer.specs.Adding.{Lent, said_add, Adds}
 use Rattle.writer.specs.Finishing.{Finishes}
 use Rattle.export.specs.declared.writing.Added.{Added}
 use Rattle.export.specs.declared.writing.Finished.{Finished}
 use Rattle.export.specs.Refusals.{refusal_of}
 use Rattle.export.specs.Writing.{AddsRecord, finished}
-use Rattle.evening.specs.Evening.{bytes_said}
+use Rattle.evening.specs.Evening.{Finishing, bytes_said, shp_front, shx_front}
 
 -- An add through `mbenaruul_add_record`, or through `mbenaruul_write_shape` with the state behind it, is an add of a series: the same buffers, the same
 -- state behind it, the refusal, and as many bytes.
@@ -30,8 +29,8 @@ AddsForC =
 pub record IsFinishing (s : State) (r : Finished) : Type 0 where
   pub back : Finishing
   pub finishes : Finishes s back
-  pub shp_is : r.shp ≡ back.shp
-  pub shx_is : r.shx ≡ back.shx
+  pub shp_is : r.shp ≡ shp_front back
+  pub shx_is : r.shx ≡ shx_front back
 
 abbrev pub FinishesForC : Type 0
 FinishesForC = (s : State) (r : Finished) → r ≡ finished s → IsFinishing s r
