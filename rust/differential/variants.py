@@ -52,9 +52,9 @@ VARIANTS = [
     ('a multipoint has room for a count of parts', 'layouts/src/judge.rt', 'if parts { 40 + 4 * p } else { 36 }', 'if parts { 40 + 4 * p } else { 40 }'),
     ('a multipoint takes 2 words more', 'format/src/lengths.rt', 'given(in_parts, PARTS_COUNT) + POINTS_COUNT', 'given(true, PARTS_COUNT) + POINTS_COUNT'),
     ('the .shx is one entry too long', 'writer/src/states.rt', '(50 + 4 * (natural(number) - 1)) as i32', '(50 + 4 * natural(number)) as i32'),
-    ('an index entry is 4 words off', 'writer/src/lib.rt', 'record::put_entry(entry, words, w);', 'record::put_entry(entry, Words(words.0 + 4), w);'),
-    ('an entry that fills its buffer is refused', 'writer/src/judge.rt', 'if entry < 8 {', 'if entry <= 8 {'),
-    ('a point has its x twice', 'writer/src/record.rt', 'fields::write_doubles(out, 8, ys);', 'fields::write_doubles(out, 8, xs);'),
+    ('an index entry is 4 words off', 'writer/src/lib.rt', 'record::put_two(entry, state.words.0, judged.content);', 'record::put_two(entry, state.words.0 + 4, judged.content);'),
+    ('an entry that fills its buffer is refused', 'writer/src/judge.rt', 'if space.entry < 8 {', 'if space.entry <= 8 {'),
+    ('a point has its x twice', 'writer/src/record.rt', 'fields::write_doubles(out, 8, t.ys);', 'fields::write_doubles(out, 8, t.xs);'),
     ('the record number stays', 'writer/src/record.rt', 'let next = natural(number) + 1;', 'let next = natural(number);'),
     ('f64_min with its arguments exchanged', 'boxes/src/lib.rt', 'if fields::below(a, b) { a } else { b }', 'if fields::below(b, a) { b } else { a }'),
 ]
