@@ -28,7 +28,8 @@ pub struct Fault {
     pub record: usize,
 }
 
-// The records behind the headers, by the file's plan and Null's. The first fault in record order, then rule order, ends the walk.
+// The records behind the headers, by the file's plan and Null's. The first fault in record order, then rule order, ends the walk: loops in
+// one another that are left by a label, a form that document 01 names, so that this function is the one long one.
 fn walk(plan: Plan, null: Plan, shp: &[u8], shx: &[u8]) -> Result<Totals, Fault>
     requires { (plan ≡ plan_for (taken_from plan)) × (null ≡ plan_for null_taken) × (plan.rings ≡ true → plan.parts ≡ true) × (100 ≤ length shp.now) × (100 ≤ length shx.now) }
     ensures { said_verdict result ≡ walk_from (taken_from plan) (drop 100 shp.now) (drop 100 shx.now) 100 none_yet }

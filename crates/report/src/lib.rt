@@ -3,25 +3,19 @@
 
 ghost use Rattle.std.specs.Prelude.{◌≤◌, length, IfOk};
 
-use pair::Verdict;
+use pair::{Fault, Totals};
 use std::io::Read;
 use std::rt::{Env, Files};
 use std::{fs, io, str};
 
-fn say(rt: &impl Print, text: &[u8]) -> io::Result<()> {
-    rt.write_all(text)
-}
+// The most bytes that a .shp and a .shx may have; and the room for one more, so that a larger one shows.
+const SHP_MOST: usize = 49_152;
 
-fn number(rt: &impl Print, label: &str, n: u64) -> io::Result<()> {
-    print!(rt; "{label}{n}")
-}
+const SHX_MOST: usize = 8_192;
 
-// What was read of a file: so many bytes, or nothing, since it is missing, does not open or cannot be read.
-#[derive(Clone, Copy)]
-enum Got {
-    Bytes(usize),
-    Cannot,
-}
+const SHP_ROOM: usize = SHP_MOST + 1;
+
+const SHX_ROOM: usize = SHX_MOST + 1;
 
 // The bytes of argument i at the front of the buffer, and how many; none, where it is missing or longer.
 fn arg(rt: &impl Env, i: usize, buf: &mut [u8]) -> usize
@@ -30,7 +24,7 @@ fn arg(rt: &impl Env, i: usize, buf: &mut [u8]) -> usize
     rt.arg(i, buf).unwrap_or(0)
 }
 
-// Reads until the buffer is full or the file ends.
+// Reads until the buffer is full or the file ends. `read_exact` would not say how many bytes a shorter file has.
 fn read_full(file: &mut impl Read, buf: &mut [u8]) -> io::Result<usize>
     ensures { IfOk result (λ n. n ≤ length buf.new) }
 {
@@ -48,70 +42,54 @@ fn read_full(file: &mut impl Read, buf: &mut [u8]) -> io::Result<usize>
 // As much of the file as goes into the buffer. A read past its end tells an error from the end.
 fn read_front(file: &mut impl Read, buf: &mut [u8]) -> io::Result<usize> {
     let got = read_full(file, buf)?;
-    let mut more = [0u8; 1];
-    file.read(&mut more)?;
+    file.read(&mut [0])?;
     Ok(got)
 }
 
-// The file that argument i names, as much of it as goes into the buffer. A name is text: std opens no other.
-fn read_arg<R: Env + Files>(rt: &R, i: usize, buf: &mut [u8]) -> Got {
+// The file that argument i names, as much of it as goes into the buffer, and how many bytes; nothing, where it is missing, does not open
+// or cannot be read. A name is text: std opens no other.
+fn read_arg<R: Env + Files>(rt: &R, i: usize, buf: &mut [u8]) -> Option<usize> {
     let mut path = [0u8; 4096];
     let n = arg(rt, i, &mut path);
-    let Ok(name) = str::from_utf8(&path[..n]) else {
-        return Got::Cannot;
-    };
-    let Ok(mut file) = fs::open(rt, name) else {
-        return Got::Cannot;
-    };
-    match read_front(&mut file, buf) {
-        Ok(got) => Got::Bytes(got),
-        Err(_) => Got::Cannot,
-    }
+    let name = str::from_utf8(&path[..n]).ok()?;
+    let mut file = fs::open(rt, name).ok()?;
+    read_front(&mut file, buf).ok()
 }
 
-// The verdict's line, without its end.
+// The verdict's line.
 fn say_verdict(rt: &impl Print, shp: &[u8], shx: &[u8]) -> io::Result<()> {
     match pair::check_pair(shp, shx) {
-        Verdict::Yes {
-            records,
-            parts,
-            points,
-        } => {
-            number(rt, "yes records=", records as u64)?;
-            number(rt, " parts=", parts as u64)?;
-            number(rt, " points=", points as u64)
-        }
-        Verdict::No { rule, record } => {
-            number(rt, "no rule=P", rule as u64)?;
-            number(rt, " record=", record as u64)
-        }
+        Ok(
+            Totals {
+                records,
+                parts,
+                points,
+            },
+        ) => println!(rt; "yes records={records} parts={parts} points={points}"),
+        Err(Fault { rule, record }) => println!(rt; "no rule=P{rule} record={record}"),
     }
 }
 
-// Arguments i and j name a .shp and a .shx. Each array has one byte more than a file may have, so that a larger one shows.
+// Arguments i and j name a .shp and a .shx.
 pub fn say_pair<R: Env + Files + Print>(rt: &R, i: usize, j: usize) -> io::Result<()> {
-    let mut a = [0u8; 49153];
-    let Got::Bytes(an) = read_arg(rt, i, &mut a) else {
-        return say(rt, b"cannot read\n");
+    let mut shp = [0u8; SHP_ROOM];
+    let Some(shp_len) = read_arg(rt, i, &mut shp) else {
+        return println!(rt; "cannot read");
     };
-    let mut b = [0u8; 8193];
-    let Got::Bytes(bn) = read_arg(rt, j, &mut b) else {
-        return say(rt, b"cannot read\n");
+    let mut shx = [0u8; SHX_ROOM];
+    let Some(shx_len) = read_arg(rt, j, &mut shx) else {
+        return println!(rt; "cannot read");
     };
-    if 49152 < an {
-        return say(rt, b"too big\n");
+    if SHP_MOST < shp_len || SHX_MOST < shx_len {
+        return println!(rt; "too big");
     }
-    if 8192 < bn {
-        return say(rt, b"too big\n");
-    }
-    say_verdict(rt, &a[0..an], &b[0..bn])?;
-    say(rt, b"\n")
+    say_verdict(rt, &shp[..shp_len], &shx[..shx_len])
 }
 
 // The name of argument i, in front of its line.
 pub fn say_name<R: Env + Print>(rt: &R, i: usize) -> io::Result<()> {
     let mut path = [0u8; 4096];
     let n = arg(rt, i, &mut path);
-    say(rt, &path[..n])?;
-    say(rt, b": ")
+    rt.write_all(&path[..n])?;
+    print!(rt; ": ")
 }
