@@ -1,161 +1,120 @@
-// Numbers and tables of a case's input. Nothing is asked of a caller: what the bytes do not hold is 0, or a place past their end.
-ghost use Rattle.std.specs.Prelude.{◌+◌, ◌*◌, ◌^◌, ◌<◌, ◌≤◌, length};
+// The bytes of a case's input are read in turn. Nothing is asked of a caller: a number that the bytes do not hold is 0, and so are all after it.
+ghost use Rattle.std.specs.Prelude.{◌^◌, ◌<◌};
 
+use crate::stores::{Sizes, Stores};
 use header::bbox::BBoxZ;
 
-// Past the end of every input.
-const NOWHERE: usize = 0xffff_ffff_ffff_ffff;
-
-pub fn word(s: &[u8], at: usize) -> usize
-    ensures { result < 2 ^ 32 }
-{
-    if at < s.len() {
-        if 4 <= s.len() - at {
-            return fields::le_number(s, at, 4) as usize;
-        }
-    }
-    0
-}
-
-pub fn int(s: &[u8], at: usize) -> i32 {
-    if at < s.len() {
-        if 4 <= s.len() - at {
-            return fields::le_i32_at(s, at);
-        }
-    }
-    0
-}
-
-pub fn double(s: &[u8], at: usize) -> f64 {
-    if at < s.len() {
-        if 8 <= s.len() - at {
-            return fields::le_f64_at(s, at);
-        }
-    }
-    0.0
-}
-
-pub fn bounds(s: &[u8], at: usize) -> BBoxZ {
-    let mut a = [0.0; 8];
-    if at < s.len() {
-        if 64 <= s.len() - at {
-            fields::read_doubles(s, at, &mut a);
-        }
-    }
-    BBoxZ {
-        xmin: a[0],
-        ymin: a[1],
-        xmax: a[2],
-        ymax: a[3],
-        zmin: a[4],
-        zmax: a[5],
-        mmin: a[6],
-        mmax: a[7],
-    }
-}
-
-// So many entries went into a store, and the input goes on at a place.
+// What was not yet read; none, once the bytes did not hold what was to be read.
 #[derive(Clone, Copy)]
-pub struct Run {
-    pub n: usize,
-    pub at: usize,
+pub struct Given<'a> {
+    rest: Option<&'a [u8]>,
 }
 
-fn nothing() -> Run {
-    Run { n: 0, at: NOWHERE }
-}
-
-// A number of doubles, and they.
-fn doubles(s: &[u8], at: usize, out: &mut [f64]) -> Run {
-    let n = word(s, at);
-    if at < s.len() {
-        if 4 + 8 * n <= s.len() - at {
-            if n <= out.len() {
-                fields::read_doubles(s, at + 4, &mut out[0..n]);
-                return Run {
-                    n: n,
-                    at: at + 4 + 8 * n,
-                };
-            }
-        }
-    }
-    nothing()
-}
-
-// As many words as out has, from a place on.
-fn read_words(s: &[u8], at: usize, out: &mut [u32])
-    requires { at + 4 * length out.old ≤ length s.now }
-{
-    let mut i = 0;
-    while i < out.len() {
-        out[i] = fields::le_number(s, at + 4 * i, 4) as u32;
-        i += 1;
-    }
-}
-
-// A number of part counts, and they.
-fn counts(s: &[u8], at: usize, out: &mut [u32]) -> Run {
-    let n = word(s, at);
-    if at < s.len() {
-        if 4 + 4 * n <= s.len() - at {
-            if n <= out.len() {
-                read_words(s, at + 4, &mut out[0..n]);
-                return Run {
-                    n: n,
-                    at: at + 4 + 4 * n,
-                };
-            }
-        }
-    }
-    nothing()
-}
-
-// The sum, or a place past the end of every input.
-pub fn after(at: usize, n: usize) -> usize {
-    if NOWHERE - at < n { NOWHERE } else { at + n }
-}
-
-pub fn least(a: usize, b: usize) -> usize
-    ensures { (result ≤ a) × (result ≤ b) }
-{
-    if a < b { a } else { b }
-}
-
-// A shape's tables, each at the front of its store: p counts, nx values of x, ny of y, nz of z and nm of m. The input goes on at a place.
+// A shape's box, and how many entries its tables have at the front of each store.
 #[derive(Clone, Copy)]
 pub struct Shape {
     pub bounds: BBoxZ,
-    pub p: usize,
-    pub nx: usize,
-    pub ny: usize,
-    pub nz: usize,
-    pub nm: usize,
-    pub at: usize,
+    pub sizes: Sizes,
 }
 
-// The box, then the part counts, x, y, z and m, each with its number of entries in front.
-pub fn tables(
-    s: &[u8],
-    at: usize,
-    parts: &mut [u32],
-    xs: &mut [f64],
-    ys: &mut [f64],
-    zs: &mut [f64],
-    ms: &mut [f64],
-) -> Shape {
-    let b = bounds(s, at);
-    let p = counts(s, after(at, 64), parts);
-    let x = doubles(s, p.at, xs);
-    let y = doubles(s, x.at, ys);
-    let z = doubles(s, y.at, zs);
-    let m = doubles(s, z.at, ms);
-    Shape {
-        bounds: b,
-        p: p.n,
-        nx: x.n,
-        ny: y.n,
-        nz: z.n,
-        nm: m.n,
-        at: m.at,
+// A number as the bytes have it, low byte first.
+trait Number: Copy {
+    fn take(given: &mut Given<'_>) -> Option<Self>;
+}
+
+impl Number for u32 {
+    fn take(given: &mut Given<'_>) -> Option<u32> {
+        Some(u32::from_le_bytes(*given.chunk()?))
+    }
+}
+
+impl Number for i32 {
+    fn take(given: &mut Given<'_>) -> Option<i32> {
+        Some(i32::from_le_bytes(*given.chunk()?))
+    }
+}
+
+impl Number for f64 {
+    fn take(given: &mut Given<'_>) -> Option<f64> {
+        let bits = u64::from_le_bytes(*given.chunk()?);
+        Some(fields::double(bits))
+    }
+}
+
+impl<'a> Given<'a> {
+    pub fn new(bytes: &'a [u8]) -> Self {
+        Given { rest: Some(bytes) }
+    }
+
+    // The bytes from a place on.
+    pub fn starting_at(bytes: &'a [u8], place: usize) -> Self {
+        Given {
+            rest: bytes.get(place..),
+        }
+    }
+
+    pub fn is_at_end(self) -> bool {
+        self.rest.is_some_and(|rest| rest.is_empty())
+    }
+
+    fn chunk<const N: usize>(&mut self) -> Option<&'a [u8; N]> {
+        let (chunk, rest) = self.rest.take()?.split_first_chunk()?;
+        self.rest = Some(rest);
+        Some(chunk)
+    }
+
+    pub fn int(&mut self) -> i32 {
+        i32::take(self).unwrap_or(0)
+    }
+
+    pub fn count(&mut self) -> usize
+        ensures { result < 2 ^ 32 }
+    {
+        u32::take(self).unwrap_or(0) as usize
+    }
+
+    pub fn double(&mut self) -> f64 {
+        f64::take(self).unwrap_or(0.0)
+    }
+
+    pub fn bounds(&mut self) -> BBoxZ {
+        let mut values = [0.0; 8];
+        if let Some(bytes) = self.chunk::<64>() {
+            fields::read_doubles(bytes, 0, &mut values);
+        }
+        let [xmin, ymin, xmax, ymax, zmin, zmax, mmin, mmax] = values;
+        BBoxZ {
+            xmin,
+            ymin,
+            xmax,
+            ymax,
+            zmin,
+            zmax,
+            mmin,
+            mmax,
+        }
+    }
+
+    // A number of values, and they, into the front of a store.
+    fn values<T: Number>(&mut self, store: &mut [T]) -> Option<usize> {
+        let n = u32::take(self)? as usize;
+        for entry in store.get_mut(..n)? {
+            *entry = T::take(self)?;
+        }
+        Some(n)
+    }
+
+    // The box, then the part counts, x, y, z and m, each with its number of entries in front; none, where the bytes end or a store has no room.
+    pub fn shape(&mut self, stores: &mut Stores) -> Option<Shape> {
+        Some(Shape {
+            bounds: self.bounds(),
+            sizes: Sizes {
+                counts: self.values(&mut stores.counts)?,
+                xs: self.values(&mut stores.xs)?,
+                ys: self.values(&mut stores.ys)?,
+                zs: self.values(&mut stores.zs)?,
+                ms: self.values(&mut stores.ms)?,
+            },
+        })
     }
 }

@@ -3,12 +3,12 @@
 // contracts say next to nothing, and what is proved of it is that it is safe and ends.
 #![tactic(auto)]
 
-ghost use Rattle.std.specs.Prelude.{◌≡◌, length};
-
 use std::io;
+use stores::Stores;
 
 mod answers;
 mod bodies;
+mod cases;
 mod files;
 mod given;
 mod heads;
@@ -17,38 +17,17 @@ mod seen;
 mod stores;
 mod stream;
 
-fn number(rt: &impl Print, label: &str, n: u64) -> io::Result<()> {
-    print!(rt; "{label}{n}")
-}
-
-fn mebibyte() -> [u8; 1048576]
-    ensures { 1048576 ≡ length result }
-{
-    [0; 1048576]
-}
-
 // The stores hold whatever a block of a mebibyte can give.
 fn main(rt: HostRuntime) -> io::Result<()> {
-    let mut block = mebibyte();
-    let mut counts = [0u32; 65536];
-    let mut xs = [0.0; 65536];
-    let mut ys = [0.0; 65536];
-    let mut zs = [0.0; 65536];
-    let mut ms = [0.0; 65536];
-    let mut out = mebibyte();
-    let t = stream::run(
-        &mut rt.stdin(),
-        &mut block,
-        &mut counts,
-        &mut xs,
-        &mut ys,
-        &mut zs,
-        &mut ms,
-        &mut out,
-    );
-    number(&rt, "cases=", t.cases)?;
-    number(&rt, " wrong=", t.wrong)?;
-    number(&rt, " first=", t.first)?;
-    number(&rt, " broken=", t.broken)?;
-    println!(rt)
+    let mut block = [0; stream::MEBIBYTE];
+    let mut stores = Stores {
+        counts: [0; stores::ROOM],
+        xs: [0.0; stores::ROOM],
+        ys: [0.0; stores::ROOM],
+        zs: [0.0; stores::ROOM],
+        ms: [0.0; stores::ROOM],
+    };
+    let mut out = [0; stream::MEBIBYTE];
+    let tally = stream::run(&mut rt.stdin(), &mut block, &mut stores, &mut out);
+    println!(rt; "{tally}")
 }

@@ -1,8 +1,9 @@
 // Part 7: a run of points is judged for closed and turning and then closed, in stores with room behind it and in ones that it fills.
 ghost use Rattle.std.specs.Prelude.{◌*◌, ◌≤◌, length};
 
+use crate::given::Given;
 use crate::seen::Seen;
-use crate::{given, seen, stores};
+use crate::stores::{self, Stores, fill, first, is_left};
 use rings::{CloseAnswer, ClosedAnswer, RingAnswer};
 
 fn closed(xs: &[f64], ys: &[f64], n: usize) -> u8 {
@@ -22,67 +23,51 @@ fn inner(xs: &[f64], ys: &[f64], n: usize) -> u8 {
 }
 
 // The closed run of k points, and the rest of both stores as it was.
-fn stored(e: &[u8], c: Seen, k: usize, xs: &[f64], ys: &[f64]) -> bool {
-    let c = seen::word(e, c, k as u64);
-    let c = seen::doubles(e, c, stores::doubles(xs, k));
-    if seen::whole(e, seen::doubles(e, c, stores::doubles(ys, k))) {
-        if stores::doubles_left(xs, k) {
-            return stores::doubles_left(ys, k);
-        }
-    }
-    false
+fn is_stored(seen: Seen<'_>, k: usize, xs: &[f64], ys: &[f64]) -> bool {
+    seen.count(k)
+        .doubles(first(xs, k))
+        .doubles(first(ys, k))
+        .is_whole()
+        && is_left(xs, k)
+        && is_left(ys, k)
 }
 
 // The n points of the input, all x before all y, at the front of both stores.
 fn lay(s: &[u8], n: usize, xs: &mut [f64], ys: &mut [f64])
     requires { (16 * n ≤ length s.now) × (n ≤ length xs.old) × (n ≤ length ys.old) }
 {
-    stores::fill_doubles(xs);
-    stores::fill_doubles(ys);
-    fields::read_doubles(s, 0, &mut xs[0..n]);
-    fields::read_doubles(s, 8 * n, &mut ys[0..n]);
-}
-
-fn judged(e: &[u8], n: usize, xs: &[f64], ys: &[f64]) -> Seen {
-    let c = seen::byte(e, seen::start(), closed(xs, ys, n));
-    seen::byte(e, c, inner(xs, ys, n))
+    fill(xs);
+    fill(ys);
+    fields::read_doubles(s, 0, &mut xs[..n]);
+    fields::read_doubles(s, 8 * n, &mut ys[..n]);
 }
 
 fn run(s: &[u8], e: &[u8], xs: &mut [f64], ys: &mut [f64]) -> bool {
     let n = s.len() / 16;
-    if xs.len() < n {
-        return false;
-    }
-    if ys.len() < n {
+    if xs.len() < n || ys.len() < n {
         return false;
     }
     lay(s, n, xs, ys);
-    let c = judged(e, n, xs, ys);
+    let seen = Seen::new(e).byte(closed(xs, ys, n)).byte(inner(xs, ys, n));
     match rings::close_points_if_not_already(xs, ys, n) {
-        CloseAnswer::Points(k) => stored(e, c, k, xs, ys),
+        CloseAnswer::Points(k) => is_stored(seen, k, xs, ys),
         CloseAnswer::Tables => false,
         CloseAnswer::Room(_) => false,
     }
 }
 
-fn run_into(s: &[u8], e: &[u8], room: usize, xs: &mut [f64], ys: &mut [f64]) -> bool {
-    if xs.len() < room {
+fn run_into(s: &[u8], e: &[u8], room: usize, stores: &mut Stores) -> bool {
+    let Some(xs) = stores::first_mut(&mut stores.xs, room) else {
         return false;
-    }
-    if ys.len() < room {
+    };
+    let Some(ys) = stores::first_mut(&mut stores.ys, room) else {
         return false;
-    }
-    run(s, e, &mut xs[0..room], &mut ys[0..room])
+    };
+    run(s, e, xs, ys)
 }
 
 // The input is whole points, an x and a y for each; the expected answer says how many the closed run has.
-pub fn ring(s: &[u8], e: &[u8], xs: &mut [f64], ys: &mut [f64]) -> bool {
-    if s.len() % 16 != 0 {
-        return false;
-    }
-    let k = given::word(e, 2);
-    if run_into(s, e, k + 2, xs, ys) {
-        return run_into(s, e, k, xs, ys);
-    }
-    false
+pub fn ring(s: &[u8], e: &[u8], stores: &mut Stores) -> bool {
+    let k = Given::starting_at(e, 2).count();
+    s.len() % 16 == 0 && run_into(s, e, k + 2, stores) && run_into(s, e, k, stores)
 }

@@ -1,81 +1,131 @@
-// Lent stores are filled with a fixed value before a call, and after it all entries behind the answer must still have it. Nothing is asked of a
-// caller.
+// The stores that are lent to calls. They are filled with a fixed value before a call, and after it all entries behind the answer must still have it.
+// Nothing is asked of a caller.
 
-pub fn fill_words(xs: &mut [u32]) {
-    let mut i = 0;
-    while i < xs.len() {
-        xs[i] = 77;
-        i += 1;
-    }
+pub const ROOM: usize = 65536;
+
+#[derive(Drop)]
+pub struct Stores {
+    pub counts: [u32; ROOM],
+    pub xs: [f64; ROOM],
+    pub ys: [f64; ROOM],
+    pub zs: [f64; ROOM],
+    pub ms: [f64; ROOM],
 }
 
-pub fn fill_doubles(xs: &mut [f64]) {
-    let mut i = 0;
-    while i < xs.len() {
-        xs[i] = 0.25;
-        i += 1;
-    }
+// What of several points a body has: the starts of parts, z, m.
+#[derive(Clone, Copy)]
+pub struct Layout {
+    pub parts: bool,
+    pub z: bool,
+    pub m: bool,
 }
 
-pub fn fill_bytes(xs: &mut [u8]) {
-    let mut i = 0;
-    while i < xs.len() {
-        xs[i] = 0xaa;
-        i += 1;
-    }
+// How many entries of each store.
+#[derive(Clone, Copy, Default)]
+pub struct Sizes {
+    pub counts: usize,
+    pub xs: usize,
+    pub ys: usize,
+    pub zs: usize,
+    pub ms: usize,
 }
 
-pub fn words_left(xs: &[u32], from: usize) -> bool {
-    let mut i = from;
-    while i < xs.len() {
-        if xs[i] != 77 {
-            return false;
+impl Sizes {
+    // What a body of so many parts and points takes.
+    pub fn of_body(layout: Layout, parts: usize, points: usize) -> Self {
+        Sizes {
+            counts: parts,
+            xs: points,
+            ys: points,
+            zs: if layout.z { points } else { 0 },
+            ms: if layout.m { points } else { 0 },
         }
-        i += 1;
     }
-    true
 }
 
-pub fn doubles_left(xs: &[f64], from: usize) -> bool {
-    let mut i = from;
-    while i < xs.len() {
-        if xs[i] != 0.25 {
-            return false;
-        }
-        i += 1;
-    }
-    true
+// Entries at the front of each store, for a call that writes them.
+#[derive(Drop)]
+pub struct Lent<'a> {
+    pub counts: &'a mut [u32],
+    pub xs: &'a mut [f64],
+    pub ys: &'a mut [f64],
+    pub zs: &'a mut [f64],
+    pub ms: &'a mut [f64],
 }
 
-pub fn bytes_left(xs: &[u8], from: usize) -> bool {
-    let mut i = from;
-    while i < xs.len() {
-        if xs[i] != 0xaa {
-            return false;
-        }
-        i += 1;
+// The same for a call that reads them.
+#[derive(Clone, Copy)]
+pub struct Tables<'a> {
+    pub counts: &'a [u32],
+    pub xs: &'a [f64],
+    pub ys: &'a [f64],
+    pub zs: &'a [f64],
+    pub ms: &'a [f64],
+}
+
+pub fn first_mut<T>(store: &mut [T], n: usize) -> Option<&mut [T]> {
+    store.get_mut(..n)
+}
+
+impl Stores {
+    // The first entries of each store; none, where one has not so many.
+    pub fn lend(&mut self, sizes: Sizes) -> Option<Lent<'_>> {
+        let Stores {
+            counts,
+            xs,
+            ys,
+            zs,
+            ms,
+        } = self;
+        Some(Lent {
+            counts: first_mut(counts, sizes.counts)?,
+            xs: first_mut(xs, sizes.xs)?,
+            ys: first_mut(ys, sizes.ys)?,
+            zs: first_mut(zs, sizes.zs)?,
+            ms: first_mut(ms, sizes.ms)?,
+        })
     }
-    true
+
+    pub fn tables(&self, sizes: Sizes) -> Tables<'_> {
+        Tables {
+            counts: first(&self.counts, sizes.counts),
+            xs: first(&self.xs, sizes.xs),
+            ys: first(&self.ys, sizes.ys),
+            zs: first(&self.zs, sizes.zs),
+            ms: first(&self.ms, sizes.ms),
+        }
+    }
+}
+
+// What a store is filled with.
+pub trait Filler: Copy + PartialEq {
+    const FILLER: Self;
+}
+
+impl Filler for u32 {
+    const FILLER: u32 = 77;
+}
+
+impl Filler for f64 {
+    const FILLER: f64 = 0.25;
+}
+
+impl Filler for u8 {
+    const FILLER: u8 = 0xaa;
+}
+
+pub fn fill<T: Filler>(store: &mut [T]) {
+    for entry in store {
+        *entry = T::FILLER;
+    }
+}
+
+// All entries from a place on are as they were filled.
+pub fn is_left<T: Filler>(store: &[T], from: usize) -> bool {
+    store.iter().skip(from).all(|entry| *entry == T::FILLER)
 }
 
 // The first n entries; none, where there are not so many.
-pub fn words(xs: &[u32], n: usize) -> &[u32] {
-    if n <= xs.len() {
-        return &xs[0..n];
-    }
-    &xs[0..0]
-}
-
-pub fn doubles(xs: &[f64], n: usize) -> &[f64] {
-    if n <= xs.len() {
-        return &xs[0..n];
-    }
-    &xs[0..0]
-}
-
-pub fn bytes(xs: &[u8], n: usize) -> &[u8] {
-    if n <= xs.len() {
-        return &xs[0..n];
-    }
-    &xs[0..0]
+pub fn first<T>(store: &[T], n: usize) -> &[T] {
+    store.get(..n).unwrap_or(&[])
 }

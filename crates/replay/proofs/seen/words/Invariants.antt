@@ -1,6 +1,0 @@
--- Each turn sees the next word.
-use Rattle.std.proofs.Common.{length, ◌-◌}
-use Rattle.replay.proofs.seen.words.Given as goal
-
-abbrev pub decreases-loop-i : goal.decreases-loop-i
-decreases-loop-i l = length l.xs - l.i
