@@ -2,8 +2,9 @@
 // stay, and a refusal stores nothing.
 use crate::given::Given;
 use crate::seen::Seen;
-use crate::stores::{Layout, Lent, Sizes, Stores, Tables, fill, first, is_left};
-use multipart::{Body, BodyAnswer};
+use crate::stores::{Lent, Sizes, Stores, fill, first, is_left};
+use format::shapes::{Layout, Short, Tables};
+use multipart::{Body, BodyError};
 
 // What a body holds beside what goes into the stores.
 fn head(e: &[u8], b: Body) -> Seen<'_> {
@@ -17,7 +18,7 @@ fn head(e: &[u8], b: Body) -> Seen<'_> {
 }
 
 // All entries from these places on are as they were filled.
-fn are_left(t: Tables<'_>, sizes: Sizes) -> bool {
+fn are_left(t: &Tables<'_>, sizes: Sizes) -> bool {
     is_left(t.counts, sizes.counts)
         && is_left(t.xs, sizes.xs)
         && is_left(t.ys, sizes.ys)
@@ -26,7 +27,7 @@ fn are_left(t: Tables<'_>, sizes: Sizes) -> bool {
 }
 
 // So many values of each store after the head, and the rest as it was.
-fn is_stored(e: &[u8], b: Body, sizes: Sizes, t: Tables<'_>) -> bool {
+fn is_stored(e: &[u8], b: Body, sizes: Sizes, t: &Tables<'_>) -> bool {
     head(e, b)
         .words(first(t.counts, sizes.counts))
         .doubles(first(t.xs, sizes.xs))
@@ -38,17 +39,17 @@ fn is_stored(e: &[u8], b: Body, sizes: Sizes, t: Tables<'_>) -> bool {
 }
 
 // The refusal that is expected, and nothing stored.
-fn is_refused(e: &[u8], which: u8, place: usize, t: Tables<'_>) -> bool {
+fn is_refused(e: &[u8], which: u8, place: usize, t: &Tables<'_>) -> bool {
     Seen::new(e).is_refusal_at(which, place) && are_left(t, Sizes::default())
 }
 
 // An answer with the stores as they are after the call.
-fn is_answer(e: &[u8], answer: BodyAnswer, layout: Layout, t: Tables<'_>) -> bool {
+fn is_answer(e: &[u8], answer: Result<Body, BodyError>, layout: Layout, t: &Tables<'_>) -> bool {
     match answer {
-        BodyAnswer::Whole(b) => is_stored(e, b, Sizes::of_body(layout, b.parts, b.points), t),
-        BodyAnswer::Short(at, _) => is_refused(e, 1, at, t),
-        BodyAnswer::Size(at) => is_refused(e, 3, at, t),
-        BodyAnswer::Room(_, _) => false,
+        Ok(b) => is_stored(e, b, Sizes::of_body(layout, b.parts, b.points), t),
+        Err(BodyError::Short(Short { at, .. })) => is_refused(e, 1, at, t),
+        Err(BodyError::Size(at)) => is_refused(e, 3, at, t),
+        Err(BodyError::Room { .. }) => false,
     }
 }
 
@@ -69,7 +70,7 @@ fn read_into(s: &[u8], e: &[u8], layout: Layout, sizes: Sizes, stores: &mut Stor
     fill(ys);
     fill(zs);
     fill(ms);
-    let answer = multipart::read_body(s, layout.parts, layout.z, layout.m, counts, xs, ys, zs, ms);
+    let answer = multipart::read_body(s, layout, counts, xs, ys, zs, ms);
     let t = Tables {
         counts,
         xs,
@@ -77,7 +78,7 @@ fn read_into(s: &[u8], e: &[u8], layout: Layout, sizes: Sizes, stores: &mut Stor
         zs,
         ms,
     };
-    is_answer(e, answer, layout, t)
+    is_answer(e, answer, layout, &t)
 }
 
 // The expected answer says how many parts and points there are; it is shorter where the body is refused.

@@ -1,37 +1,37 @@
 // Parts 8 and 9: bodies, and whole files but for bytes 36 to 99 of their headers, written into outputs with room behind them and into ones that
 // they fill. All bytes behind what is written stay.
-use crate::given::{Given, Shape};
+use crate::given::Given;
 use crate::seen::Seen;
-use crate::stores::{Stores, Tables, fill, first, first_mut, is_left};
+use crate::stores::{Stores, fill, first, first_mut, is_left};
+use format::shapes::{Layout, Tables};
 use header::bbox::BBoxZ;
-use layouts::LayoutAnswer;
-use writer::{AddAnswer, FinishAnswer, State};
+use layouts::LayoutError;
+use writer::State;
 
-fn write(flags: u8, b: BBoxZ, t: Tables<'_>, out: &mut [u8]) -> LayoutAnswer {
+fn write(flags: u8, b: BBoxZ, t: &Tables<'_>, out: &mut [u8]) -> Result<usize, LayoutError> {
     match flags {
         0 => layouts::write_point_shape(out, b, t.counts, t.xs, t.ys),
         2 => layouts::write_point_m_shape(out, b, t.counts, t.xs, t.ys, t.ms),
         3 => layouts::write_point_z_shape(out, b, t.counts, t.xs, t.ys, t.zs, t.ms),
         _ => {
-            let z = flags % 2 == 1;
-            let m = flags / 2 % 2 == 1;
-            layouts::write_body(out, false, z, m, b, t.counts, t.xs, t.ys, t.zs, t.ms)
+            let multipoint = Layout {
+                parts: false,
+                z: flags % 2 == 1,
+                m: flags / 2 % 2 == 1,
+            };
+            layouts::write_body(out, multipoint, b, t)
         }
     }
 }
 
 // With room for so many bytes more than are expected, the first bytes of the output are those, and the rest is as it was.
-fn body_into(e: &[u8], flags: u8, more: usize, b: BBoxZ, t: Tables<'_>, out: &mut [u8]) -> bool {
+fn body_into(e: &[u8], flags: u8, more: usize, b: BBoxZ, t: &Tables<'_>, out: &mut [u8]) -> bool {
     let Some(out) = first_mut(out, e.len().saturating_add(more)) else {
         return false;
     };
     fill(out);
-    match write(flags, b, t, out) {
-        LayoutAnswer::Written(n) => {
-            Seen::new(e).bytes(first(out, n)).is_whole() && is_left(out, n)
-        }
-        _ => false,
-    }
+    write(flags, b, t, out).is_ok_and(|n| Seen::new(e).bytes(first(out, n)).is_whole()
+        && is_left(out, n))
 }
 
 pub fn body_written(s: &[u8], e: &[u8], flags: u8, stores: &mut Stores, out: &mut [u8]) -> bool {
@@ -41,8 +41,8 @@ pub fn body_written(s: &[u8], e: &[u8], flags: u8, stores: &mut Stores, out: &mu
     };
     let t = stores.tables(shape.sizes);
     given.is_at_end()
-        && body_into(e, flags, 5, shape.bounds, t, out)
-        && body_into(e, flags, 0, shape.bounds, t, out)
+        && body_into(e, flags, 5, shape.bounds, &t, out)
+        && body_into(e, flags, 0, shape.bounds, &t, out)
 }
 
 // What files are expected: the first 36 bytes of the .shp, its records and the first 36 bytes of the .shx; and all index entries.
@@ -75,27 +75,15 @@ impl<'a> Progress<'a> {
         code: i32,
         room: usize,
         bounds: BBoxZ,
-        t: Tables<'_>,
+        t: &Tables<'_>,
         out: &mut [u8],
     ) -> Option<Self> {
         let mut entry = [0; 13];
         fill(&mut entry);
         let lent = &mut entry[..room.min(13)];
-        let added = writer::add_record(
-            self.state,
-            code,
-            bounds,
-            t.counts,
-            t.xs,
-            t.ys,
-            t.zs,
-            t.ms,
-            out,
-            self.written,
-            lent,
-        );
+        let added = writer::add_record(self.state, code, bounds, t, out, self.written, lent);
         match added.answer {
-            AddAnswer::Added(size) if is_left(&entry, 8) => Some(Progress {
+            Ok(size) if is_left(&entry, 8) => Some(Progress {
                 state: added.state,
                 written: self.written.saturating_add(size),
                 entries: self.entries.bytes(first(&entry, 8)),
@@ -105,14 +93,13 @@ impl<'a> Progress<'a> {
     }
 
     fn is_finished(self, rest: &[u8], out: &[u8]) -> bool {
-        let files = writer::finish(self.state);
-        let FinishAnswer::Finished = files.answer else {
+        let Ok(headers) = writer::finish(self.state) else {
             return false;
         };
         let seen = Seen::new(rest)
-            .bytes(&files.shp[..36])
+            .bytes(first(&headers.shp, 36))
             .bytes(first(out, self.written))
-            .bytes(&files.shx[..36]);
+            .bytes(first(&headers.shx, 36));
         self.entries.is_whole() && seen.is_whole() && is_left(out, self.written)
     }
 }
@@ -132,7 +119,7 @@ fn add_all<'a>(
     for _ in 0..shapes {
         let shape = given.shape(stores)?;
         let t = stores.tables(shape.sizes);
-        progress = progress.add(code, room, shape.bounds, t, out)?;
+        progress = progress.add(code, room, shape.bounds, &t, out)?;
     }
     given.is_at_end().then_some(progress)
 }

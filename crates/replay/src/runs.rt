@@ -4,21 +4,20 @@ ghost use Rattle.std.specs.Prelude.{◌*◌, ◌≤◌, length};
 use crate::given::Given;
 use crate::seen::Seen;
 use crate::stores::{self, Stores, fill, first, is_left};
-use rings::{CloseAnswer, ClosedAnswer, RingAnswer};
+use rings::{RingType, TooFew};
 
 fn closed(xs: &[f64], ys: &[f64], n: usize) -> u8 {
     match rings::is_part_closed(xs, ys, n) {
-        ClosedAnswer::Closed => 1,
-        ClosedAnswer::Open => 0,
-        ClosedAnswer::Tables => 10,
+        Ok(closed) => u8::from(closed),
+        Err(TooFew) => 10,
     }
 }
 
 fn inner(xs: &[f64], ys: &[f64], n: usize) -> u8 {
     match rings::ring_type_from_points_ordering(xs, ys, n) {
-        RingAnswer::InnerRing => 1,
-        RingAnswer::OuterRing => 0,
-        RingAnswer::Tables => 10,
+        Ok(RingType::OuterRing) => 0,
+        Ok(RingType::InnerRing) => 1,
+        Err(TooFew) => 10,
     }
 }
 
@@ -49,11 +48,7 @@ fn run(s: &[u8], e: &[u8], xs: &mut [f64], ys: &mut [f64]) -> bool {
     }
     lay(s, n, xs, ys);
     let seen = Seen::new(e).byte(closed(xs, ys, n)).byte(inner(xs, ys, n));
-    match rings::close_points_if_not_already(xs, ys, n) {
-        CloseAnswer::Points(k) => is_stored(seen, k, xs, ys),
-        CloseAnswer::Tables => false,
-        CloseAnswer::Room(_) => false,
-    }
+    rings::close_points_if_not_already(xs, ys, n).is_ok_and(|k| is_stored(seen, k, xs, ys))
 }
 
 fn run_into(s: &[u8], e: &[u8], room: usize, stores: &mut Stores) -> bool {

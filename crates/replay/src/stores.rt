@@ -1,5 +1,6 @@
 // The stores that are lent to calls. They are filled with a fixed value before a call, and after it all entries behind the answer must still have it.
 // Nothing is asked of a caller.
+use format::shapes::{Layout, Tables};
 
 pub const ROOM: usize = 65536;
 
@@ -10,14 +11,6 @@ pub struct Stores {
     pub ys: [f64; ROOM],
     pub zs: [f64; ROOM],
     pub ms: [f64; ROOM],
-}
-
-// What of several points a body has: the starts of parts, z, m.
-#[derive(Clone, Copy)]
-pub struct Layout {
-    pub parts: bool,
-    pub z: bool,
-    pub m: bool,
 }
 
 // How many entries of each store.
@@ -43,7 +36,7 @@ impl Sizes {
     }
 }
 
-// Entries at the front of each store, for a call that writes them.
+// Entries at the front of each store, for a call that fills them.
 #[derive(Drop)]
 pub struct Lent<'a> {
     pub counts: &'a mut [u32],
@@ -51,16 +44,6 @@ pub struct Lent<'a> {
     pub ys: &'a mut [f64],
     pub zs: &'a mut [f64],
     pub ms: &'a mut [f64],
-}
-
-// The same for a call that reads them.
-#[derive(Clone, Copy)]
-pub struct Tables<'a> {
-    pub counts: &'a [u32],
-    pub xs: &'a [f64],
-    pub ys: &'a [f64],
-    pub zs: &'a [f64],
-    pub ms: &'a [f64],
 }
 
 pub fn first_mut<T>(store: &mut [T], n: usize) -> Option<&mut [T]> {
