@@ -131,7 +131,12 @@ fn kinds(rt: &impl Print) -> io::Result<()> {
     for code in [31, 2, -1] {
         print!(rt; "kind {code}:")?;
         match format::kinds::find_kind(code) {
-            Ok(k) => println!(rt; " {} {} {}", u8::from(k.z), u8::from(k.m), u8::from(k.parts))?,
+            Ok(k) => println!(rt;
+                " {} {} {}",
+                u8::from(k.z),
+                u8::from(k.m),
+                u8::from(k.parts)
+            )?,
             Err(UnknownKind(found)) => println!(rt; " 4 {found}")?,
         }
     }
@@ -232,7 +237,13 @@ fn ring_examples(rt: &impl Print) -> io::Result<()> {
     show_close(rt, "closing with no room", &mut xs, &mut ys, 4)?;
     let mut three = [0.0, 1.0, 1.0];
     show_close(rt, "closing with no room for y", &mut xs, &mut three, 3)?;
-    show_close(rt, "closing a run past the store of y", &mut xs, &mut three, 4)
+    show_close(
+        rt,
+        "closing a run past the store of y",
+        &mut xs,
+        &mut three,
+        4,
+    )
 }
 
 fn main(rt: HostRuntime) -> io::Result<()> {
