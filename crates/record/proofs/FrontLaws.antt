@@ -56,7 +56,7 @@ module _ (z : ℤ) (c : Result Lengths KindError) (f : said_content c ≡ conten
       let q : unknown {A = Lengths} code ≡ unknown z = ap said_content (sym g) ∙ (f ∙ sym (content_none_at z n)) in
       (known-there z ∙ ap there n, cc)
 
-  pub told-taken : (l : Lengths) → c ≡ Ok l → (known z ≡ true) × (is_taken z ≡ true)
+  told-taken : (l : Lengths) → c ≡ Ok l → (known z ≡ true) × (is_taken z ≡ true)
   told-taken l g =
       let k = told-kind z c f (λ q. let n : ◌≡◌ {A = ℕ} 0 1 = cc in omega arith) in
       (known_some z k.0 k.1, (taken_yes z k.0 k.1 c f l g).0)

@@ -117,7 +117,7 @@ module _ (code : ℤ) (k : Kind) (size : Bytes) (b counts : List ℕ) (xs ys zs 
   all = several_from code k size b (length counts) (length xs) (length ys) (length zs) (length ms)
 
   abbrev Gives : Result Record RecordError → List ℕ → List Float → List Float → List Float → List Float → Type 0
-  Gives r counts' xs' ys' zs' ms' = Reads all k.parts k.z b counts xs ys zs ms r counts' xs' ys' zs' ms'
+  Gives r counts' xs' ys' zs' ms' = Reads (several_from code k size b) k b counts xs ys zs ms r counts' xs' ys' zs' ms'
 
   from_counts : (r : Said Counts) → r ≡ counts_of k.parts b → and_then (moved r) next ≡ all
   unfolding several_from

@@ -76,7 +76,7 @@ module _ (k : Kind) (size : Bytes) (s counts : List ℕ) (xs ys zs ms : List Flo
   said o = by_form o k size s (length counts) (length xs) (length ys) (length zs) (length ms)
 
   abbrev Shape : Result Record RecordError → List ℕ → List Float → List Float → List Float → List Float → Type 0
-  Shape r counts' xs' ys' zs' ms' = Reads (said (form_of k)) k.parts k.z (drop 4 s) counts xs ys zs ms r counts' xs' ys' zs' ms'
+  Shape r counts' xs' ys' zs' ms' = Reads (by_form (form_of k) k size s) k (drop 4 s) counts xs ys zs ms r counts' xs' ys' zs' ms'
 
   pub null-shape : form_of k ≡ some nothing → Shape (Ok Is.Null) counts xs ys zs ms
   null-shape e = record { says = ap said (sym e); counts_are = refl; x_are = refl; y_are = refl; z_are = refl; m_are = refl }
@@ -104,9 +104,9 @@ module _ (k : Kind) (size : Bytes) (s counts : List ℕ) (xs ys zs ms : List Flo
   by_several true = refl
   by_several false = refl
 
-  pub several-shape : (code : ℤ) (b : List ℕ) (r : Result Record RecordError) (counts' : List ℕ) (xs' ys' zs' ms' : List Float) → form_of k ≡ some (several_form k.parts) → code ≡ code_in s → b ≡ drop 4 s → Reads (several_from code k size b (length counts) (length xs) (length ys) (length zs) (length ms)) k.parts k.z b counts xs ys zs ms r counts' xs' ys' zs' ms' → Shape r counts' xs' ys' zs' ms'
+  pub several-shape : (code : ℤ) (b : List ℕ) (r : Result Record RecordError) (counts' : List ℕ) (xs' ys' zs' ms' : List Float) → form_of k ≡ some (several_form k.parts) → code ≡ code_in s → b ≡ drop 4 s → Reads (several_from code k size b) k b counts xs ys zs ms r counts' xs' ys' zs' ms' → Shape r counts' xs' ys' zs' ms'
   several-shape code b r counts' xs' ys' zs' ms' e f g h =
-      let i : Reads (several_from (code_in s) k size (drop 4 s) (length counts) (length xs) (length ys) (length zs) (length ms)) k.parts k.z (drop 4 s) counts xs ys zs ms r counts' xs' ys' zs' ms' = rw (f, g) at h in
+      let i : Reads (several_from (code_in s) k size (drop 4 s)) k (drop 4 s) counts xs ys zs ms r counts' xs' ys' zs' ms' = rw (f, g) at h in
       record {
         says = i.says ∙ (several_are ∙ (by_several k.parts ∙ ap said (sym e)));
         counts_are = i.counts_are;
@@ -154,7 +154,7 @@ module _ (wanted : Std.Option ℤ) (size : Bytes) (s counts : List ℕ) (xs ys z
     named : k ≡ kind_in s
     named = ap kind_or (sym here)
 
-    pub shaped : (r : Result Record RecordError) (counts' : List ℕ) (xs' ys' zs' ms' : List Float) → Reads (by_form (form_of k) k size s (length counts) (length xs) (length ys) (length zs) (length ms)) k.parts k.z (drop 4 s) counts xs ys zs ms r counts' xs' ys' zs' ms' → ReadsRecord wanted size s counts xs ys zs ms r counts' xs' ys' zs' ms'
+    pub shaped : (r : Result Record RecordError) (counts' : List ℕ) (xs' ys' zs' ms' : List Float) → Reads (by_form (form_of k) k size s) k (drop 4 s) counts xs ys zs ms r counts' xs' ys' zs' ms' → ReadsRecord wanted size s counts xs ys zs ms r counts' xs' ys' zs' ms'
     shaped r counts' xs' ys' zs' ms' h =
         record {
           says = h.says ∙ by-kind wanted size s k _ _ _ _ _ p here;

@@ -1,4 +1,3 @@
--- Document 01's "Reading a record". Steps and Behind serve the contracts of private functions alone.
-pub mod Behind
+-- Document 01's "Reading a record". Steps serves the contracts of private functions alone.
 pub mod Reading
 pub mod Steps

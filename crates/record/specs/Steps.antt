@@ -1,5 +1,5 @@
 -- What the steps of reading a record find, for their contracts: tests whatever follows them, what is known behind them, a size, and the stores.
-use Rattle.std.specs.Prelude.{◌≡◌, Bool, true, false, cond, List, ℕ, ◌+◌, ◌^◌, ◌<◌, Float, ℤ, pos, ◌-ℤ◌, Option, Some, None, Result, Ok, Err}
+use Rattle.std.specs.Prelude.{◌≡◌, Bool, true, false, cond, List, ℕ, ◌+◌, ◌^◌, ◌≤◌, ◌<◌, Float, ℤ, pos, ◌-ℤ◌, length, Option, Some, None, Result, Ok, Err}
 use Rattle.std.specs.Float.{binary64}
 use Rattle.std.specs.Float.Ieee.{of_int}
 use Rattle.format.specs.declared.kinds.Kind.{Kind}
@@ -17,7 +17,8 @@ use Rattle.record.specs.declared.Point.{Point}
 use Rattle.record.specs.declared.Record.{Record}
 use Rattle.record.specs.declared.RecordError.{RecordError}
 use Rattle.record.specs.declared.RecordError.TheVariants as Error
-use Rattle.record.specs.Reading.{Shaped, point_shape, several_shape, moved, and_then, has_m, size_right, said_error, said_record, stored}
+use Rattle.record.specs.declared.content.Content.{Content}
+use Rattle.record.specs.Reading.{Shaped, point_shape, several_shape, code_in, moved, and_then, has_m, size_right, said_error, said_record, stored}
 
 -- ---- the tests in front of the shape
 
@@ -51,6 +52,12 @@ Sizes k size t None = size_right k size t ≡ false
 
 -- ---- the shape
 
+-- it is read of a content whose first bytes name the kind
+pub record Begins (s : List ℕ) (size : Bytes) (c : Content) : Type 0 where
+  pub long : 4 ≤ length s
+  pub code_is : c.code ≡ code_in s
+  pub size_is : c.size ≡ size
+
 -- the double at a place, or 0 where the flag is not set
 abbrev pub double_if : Bool → ℕ → List ℕ → Float
 double_if flag at s = cond flag (le_f64 at s) (of_int binary64 (pos 0))
@@ -59,14 +66,14 @@ abbrev pub said_point : ℤ → Result Point RecordError → Said Shaped
 said_point code (Ok p) = gives (point_shape code p)
 said_point code (Err e) = said_error e
 
--- an answer that says this, with what the stores then hold of a body
-pub record Reads (said : Said Shaped) (parts z : Bool) (b counts : List ℕ) (xs ys zs ms : List Float) (r : Result Record RecordError) (counts' : List ℕ) (xs' ys' zs' ms' : List Float) : Type 0 where
-  pub says : said_record r ≡ said
-  pub counts_are : counts' ≡ stored (said_record r) counts (λ m. counts_in parts b)
-  pub x_are : xs' ≡ stored (said_record r) xs (λ m. x_in parts b)
-  pub y_are : ys' ≡ stored (said_record r) ys (λ m. y_in parts b)
-  pub z_are : zs' ≡ stored (said_record r) zs (λ m. z_in parts z b)
-  pub m_are : ms' ≡ stored (said_record r) ms (λ m. m_in parts z m b)
+-- an answer that says this for stores so long, with what they then hold of a body of the kind
+pub record Reads (said : ℕ → ℕ → ℕ → ℕ → ℕ → Said Shaped) (k : Kind) (b counts : List ℕ) (xs ys zs ms : List Float) (r : Result Record RecordError) (counts' : List ℕ) (xs' ys' zs' ms' : List Float) : Type 0 where
+  pub says : said_record r ≡ said (length counts) (length xs) (length ys) (length zs) (length ms)
+  pub counts_are : counts' ≡ stored (said_record r) counts (λ m. counts_in k.parts b)
+  pub x_are : xs' ≡ stored (said_record r) xs (λ m. x_in k.parts b)
+  pub y_are : ys' ≡ stored (said_record r) ys (λ m. y_in k.parts b)
+  pub z_are : zs' ≡ stored (said_record r) zs (λ m. z_in k.parts k.z b)
+  pub m_are : ms' ≡ stored (said_record r) ms (λ m. m_in k.parts k.z m b)
 
 -- the kind's field has room in front of what a body names
 abbrev pub Movable : BodyError → Type 0

@@ -1,8 +1,7 @@
 // What is judged before a record's shape: the wanted kind, the kind's field, the size, and whether the kind is wanted and taken.
 ghost use Rattle.std.specs.Prelude.{◌≡◌, IfOk};
-ghost use Rattle.record.specs.Behind.{Begins};
 ghost use Rattle.record.specs.Reading.{wanted_tests, mismatch_tests, found_tests, front_tests};
-ghost use Rattle.record.specs.Steps.{Judges};
+ghost use Rattle.record.specs.Steps.{Judges, Begins};
 
 use crate::RecordError;
 use crate::content::Content;

@@ -1,11 +1,10 @@
 // Reading a record: dispatch by kind, Null, points, and bodies of several points, as a multipoint or in parts.
 #![tactic(auto)]
 
-ghost use Rattle.std.specs.Prelude.{◌≡◌, length, drop};
+ghost use Rattle.std.specs.Prelude.{◌≡◌, drop};
 ghost use Rattle.format.specs.Lengths.{form_of};
-ghost use Rattle.record.specs.Behind.{Begins};
 ghost use Rattle.record.specs.Reading.{by_form, ReadsRecord};
-ghost use Rattle.record.specs.Steps.{of_kind, Reads};
+ghost use Rattle.record.specs.Steps.{Begins, of_kind, Reads};
 ghost use Rattle.record.specs.declared.RecordError.TheVariants.{Short, Unknown};
 
 use content::Content;
@@ -89,7 +88,7 @@ fn read_shape(
     ms: &mut [f64],
 ) -> Result<Record, RecordError>
     requires { Begins s.now content.size content }
-    ensures { Reads (by_form (form_of content.kind) content.kind content.size s.now (length counts.old) (length xs.old) (length ys.old) (length zs.old) (length ms.old)) content.kind.parts content.kind.z (drop 4 s.now) counts.old xs.old ys.old zs.old ms.old result counts.new xs.new ys.new zs.new ms.new }
+    ensures { Reads (by_form (form_of content.kind) content.kind content.size s.now) content.kind (drop 4 s.now) counts.old xs.old ys.old zs.old ms.old result counts.new xs.new ys.new zs.new ms.new }
 {
     if content.kind.code == 0 {
         return Ok(Record::Null);

@@ -2,9 +2,8 @@
 ghost use Rattle.std.specs.Prelude.{◌≡◌, cond, ◌+◌, ◌*◌, ◌≤◌, length};
 ghost use Rattle.std.proofs.Math.Option.{some};
 ghost use Rattle.format.specs.Lengths.{one_point, form_of};
-ghost use Rattle.record.specs.Behind.{Begins};
 ghost use Rattle.record.specs.Reading.{point_in, doubles_of, point_of};
-ghost use Rattle.record.specs.Steps.{double_if, said_point};
+ghost use Rattle.record.specs.Steps.{Begins, double_if, said_point};
 
 use crate::content::Content;
 use crate::{Point, RecordError, sizes};

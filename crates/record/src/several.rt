@@ -1,5 +1,5 @@
 // Bodies of several points behind the kind's field: offsets are counted from the content's first byte, 4 before the body's.
-ghost use Rattle.std.specs.Prelude.{◌≡◌, length};
+ghost use Rattle.std.specs.Prelude.{◌≡◌};
 ghost use Rattle.std.proofs.Math.Option.{some};
 ghost use Rattle.format.specs.Lengths.{several_form, form_of};
 ghost use Rattle.record.specs.Steps.{Movable, behind, Reads, several_from};
@@ -35,7 +35,7 @@ pub(crate) fn read_several(
     ms: &mut [f64],
 ) -> Result<Record, RecordError>
     requires { form_of content.kind ≡ some (several_form content.kind.parts) }
-    ensures { Reads (several_from content.code content.kind content.size b.now (length counts.old) (length xs.old) (length ys.old) (length zs.old) (length ms.old)) content.kind.parts content.kind.z b.now counts.old xs.old ys.old zs.old ms.old result counts.new xs.new ys.new zs.new ms.new }
+    ensures { Reads (several_from content.code content.kind content.size b.now) content.kind b.now counts.old xs.old ys.old zs.old ms.old result counts.new xs.new ys.new zs.new ms.new }
 {
     let Content { code, kind, .. } = content;
     let said = multipart::read_counts(b, kind.parts)
