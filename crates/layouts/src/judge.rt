@@ -6,22 +6,7 @@ ghost use Rattle.layouts.specs.Lent.{lent_agree, layout_of_lent};
 ghost use Rattle.layouts.specs.Steps.{measure_size, front_size};
 
 use crate::LayoutError;
-use format::shapes::{Layout, Tables};
-
-// Whether the counts sum to n. The sum stops where it would pass n. (`usize` has no `From<u32>`: the cast stays.)
-fn sums_to(counts: &[u32], n: usize) -> bool
-    ensures { result ≡ eqb n (sum counts.now) }
-{
-    let mut left = n;
-    for count in counts {
-        let count = *count as usize;
-        if left < count {
-            return false;
-        }
-        left -= count;
-    }
-    left == 0
-}
+use format::shapes::{Layout, Tables, sums_to};
 
 // Whether the part counts are those of n points; a multipoint has none.
 fn counted(parts: bool, counts: &[u32], n: usize) -> bool

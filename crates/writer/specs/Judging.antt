@@ -86,7 +86,7 @@ points_by k counts xs = cond (has_several k) (points_lent k.parts counts xs) (si
 
 -- whether a shape of the kind with these counts has n points
 abbrev pub has_points : Kind → List ℕ → ℕ → Bool
-has_points k counts n = cond k.parts (eqb (sum counts) n) (eqb (length counts) 0 && (is_multipoint k || eqb n (single k)))
+has_points k counts n = cond k.parts (eqb n (sum counts)) (eqb (length counts) 0 && (is_multipoint k || eqb n (single k)))
 
 abbrev pub agree_by : Kind → List ℕ → List Float → List Float → List Float → List Float → Bool
 agree_by k counts xs ys zs ms =

@@ -11,7 +11,7 @@ use crate::states::{look_up, state_fine, words_after};
 use crate::{AddError, State};
 use format::kinds::Kind;
 use format::lengths::{Formula, content_words, has_several};
-use format::shapes::Tables;
+use format::shapes::{Tables, sums_to};
 use format::units::{Bytes, Words};
 
 // How long both buffers are, and where in the first the record goes.
@@ -50,21 +50,6 @@ fn judge_kind(state: State, code: i32) -> Result<(Kind, Formula), AddError>
         return Err(AddError::Mismatch { held, found: code });
     }
     Ok((kind, formula))
-}
-
-// Whether the counts sum to n.
-fn sums_to(counts: &[u32], n: usize) -> bool
-    ensures { result ≡ eqb (sum counts.now) n }
-{
-    let mut left = n;
-    // `usize` has no `From<u32>`: the cast stays
-    for &count in counts {
-        let Some(rest) = left.checked_sub(count as usize) else {
-            return false;
-        };
-        left = rest;
-    }
-    left == 0
 }
 
 // Whether a shape of this kind, with these counts, has n points: without parts no counts are lent, and a Null has none, a point kind one, and a multipoint any number.
