@@ -15,6 +15,7 @@ use Rattle.format.specs.Order.{first}
 use Rattle.format.specs.Said.{Said, gives, room}
 use Rattle.format.proofs.OrderLaws.{first-append, is_refusal, kept, both_true}
 use Rattle.multipart.specs.declared.Body.{Body}
+use Rattle.multipart.specs.declared.Counts.{Counts}
 use Rattle.multipart.specs.declared.CountsError.{CountsError}
 use Rattle.multipart.specs.declared.CountsError.TheVariants as CountsErrorIs
 use Rattle.multipart.specs.declared.BodyError.{BodyError}
@@ -27,18 +28,6 @@ use Rattle.multipart.proofs.CountLaws.{number_from}
 use Rattle.multipart.proofs.RestLaws.{z-place, m-place}
 
 -- ---- where it stands
-
--- a range alone ends before its values do
-range_le : (flag : Bool) (n : ℕ) → cond flag 16 0 ≤ cond flag (16 + 8 * n) 0
-range_le true n = omega arith
-range_le false n = omega arith
-
-module _ (z m : Bool) (points end size : ℕ) (ends : end_after m points (end_after z points end) ≤ size) where
-  pub z_range_inside : end + cond z 16 0 ≤ size
-  z_range_inside = omega (arith, ends, range_le z points)
-
-  pub m_range_inside : end_after z points end + cond m 16 0 ≤ size
-  m_range_inside = omega (arith, ends, range_le m points)
 
 -- what is read with its number of parts and of points is what the definition has
 module _ (parts : Bool) (s : List ℕ) (p points : ℕ) (parts_are : p ≡ parts_in parts s) (points_are : points ≡ points_in parts s) where
@@ -105,7 +94,10 @@ used_room : (flag : Bool) (n k : ℕ) → (not flag || leb n k) ≡ true → con
 used_room true n k e = leb-true n k e
 used_room false n k e = omega arith
 
-module _ (parts z m : Bool) (s : List ℕ) (p : ℕ) (n : ℤ) (points counts xs ys zs ms : ℕ) (r : Ready parts z m s p n points counts xs ys zs ms) where
+module _ (parts z m : Bool) (s : List ℕ) (said : Counts) (points counts xs ys zs ms : ℕ) (r : Ready parts z m s said points counts xs ys zs ms) where
+  abbrev p : ℕ
+  p = said.parts
+
   pub all_inside : end_after m points (end_after z points (number_at parts + 4 + 4 * p + 16 * points)) ≤ length s
   unfolding m_at
   all_inside = rw (z-place parts s points r.points_are p r.parts_are, r.points_are) r.ends

@@ -1,17 +1,17 @@
 -- Laws of the counts of a body, as the code's tests meet them: past test k, what is left of the tests has the answer.
-use mathlib.Core.Path.{◌≡◌, sym, ap, ◌∙◌, subst}
+use mathlib.Core.Path.{◌≡◌, refl, sym, ap, ◌∙◌, subst}
 use mathlib.Core.Bool.{Bool, true, false}
 use mathlib.Core.List.{List}
-use Prim.Native.Nat.{ℕ, ◌+◌, ◌≤◌}
+use Prim.Native.Nat.{ℕ, ◌+◌, ◌^◌, ◌≤◌, ◌<◌}
 use native.Mathlib.Omega.{arith}
 use lib.Dec.{T, lit<}
 use lib.IntN.{ℤ, pos, negsuc, nat_abs}
 use lib.ListN.{length, drop}
 use lib.Signed.{non_neg}
-use mir.Syntax.{w32, w64}
-use mir.Val.{Fits, SFits, to_z, of_z}
-use mir.ValLaws.{to_z-of_z}
+use mir.Syntax.{w32}
+use borrow.Author.Gap.{read_sfits}
 use borrow.Author.Tests.{le-leb, leb-true}
+use Rattle.format.specs.Bytes.{le, field}
 use Rattle.std.specs.Prelude.{Err}
 use Rattle.format.specs.declared.shapes.Short.{Short}
 use Rattle.fields.specs.Checked.{Reads}
@@ -95,6 +95,10 @@ number-there : (parts : Bool) (s : List ℕ) → ((k : ℕ) → ok_at k (count_t
 number-there true s ok = (leb-true 40 (length s) (ok 5), ok 7)
 number-there false s ok = (leb-true 36 (length s) (ok 4), ok 5)
 
+not_negative : (z : ℤ) → non_neg z ≡ true → z ≡ pos (nat_abs z)
+not_negative (pos n) e = refl
+not_negative (negsuc n) e = absurd (subst T (sym e) tt)
+
 before_body : (parts : Bool) (s : List ℕ) (a : Said Body) → first (count_tests parts s) a ≡ carry (λ t. a) (counts_of parts s)
 unfolding counts_of
 before_body true s a = first_carry (λ t. a) (count_tests true s) (counts true s)
@@ -105,24 +109,22 @@ module _ (parts : Bool) (s : List ℕ) where
   counts_stop (CountsErrorIs.Short c) e a = before_body parts s a ∙ ap (carry (λ t. a)) (sym e)
   counts_stop (CountsErrorIs.Size at) e a = before_body parts s a ∙ ap (carry (λ t. a)) (sym e)
 
-  pub counted : (c : Counts) → gives c ≡ counts_of parts s → Counted parts s c.parts
+  pub counted : (c : Counts) → gives c ≡ counts_of parts s → Counted parts s c
   unfolding counts_of
   counted c e =
       let there = number-there parts s (passed (found parts s) c (count_tests parts s) (refusals parts s) (sym e)) in
+      let is = given (found parts s) c (count_tests parts s) (refusals parts s) (sym e) in
       record {
         long = there.0;
-        parts_are = ap (λ (t : Counts). t.parts) (sym (given (found parts s) c (count_tests parts s) (refusals parts s) (sym e)));
-        number_held = there.1;
+        parts_are = ap (λ (t : Counts). t.parts) (sym is);
+        number_is = not_negative _ there.1 ∙ ap (λ (t : Counts). pos t.points) is;
         passes = λ a. before_body parts s a ∙ ap (carry (λ t. a)) (sym e);
       }
 
--- such a number casts to usize
-held_casts : (z : ℤ) → SFits w32 z → non_neg z ≡ true → T (non_neg z) × Fits w64 (nat_abs z)
-held_casts (pos n) f e = (tt, omega (arith, f.sfits))
-held_casts (negsuc n) f e = absurd (subst T (sym e) tt)
-
-pub number_casts : (z : ℤ) → SFits w32 z → non_neg z ≡ true → T (non_neg (to_z w32 (of_z w32 z))) × Fits w64 (nat_abs (to_z w32 (of_z w32 z)))
-number_casts z f e = rw (to_z-of_z w32 z f) (held_casts z f e)
+-- the number of points is one of an i32
+pub number_small : (at : ℕ) (s : List ℕ) (n : ℕ) → le_i32 at s ≡ pos n → n < 2 ^ 31
+unfolding le_i32
+number_small at s n e = rw e at (read_sfits w32 (le (field 4 at s))).sfits
 
 -- ---- p parts and n points
 

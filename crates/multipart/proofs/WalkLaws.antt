@@ -1,9 +1,9 @@
 -- Laws of the walks: what one step of the code finds, where it is refused and where it goes on, for the tests that are left.
-use mathlib.Core.Path.{◌≡◌, refl, sym, ap, ◌∙◌}
-use mathlib.Core.Bool.{Bool, true, false}
+use mathlib.Core.Path.{◌≡◌, sym, ap, ◌∙◌}
+use mathlib.Core.Bool.{Bool, true}
 use mathlib.Core.List.{List, ◌∷◌, ◌++◌, map}
 use Prim.Native.Nat.{ℕ, ◌+◌, ◌*◌, ◌-◌, ◌≤◌, ◌<◌}
-use native.Mathlib.Nat.{add-zero, zero-add}
+use native.Mathlib.Nat.{add-zero}
 use native.Mathlib.Omega.{arith}
 use lib.Dec.{lit<}
 use lib.IntN.{ℤ}
@@ -82,9 +82,6 @@ pub record Judging (p : ℕ) (n : ℤ) (s : List ℕ) (left start at points : �
   pub points-left : points + sum (map count_of (differences_from left start n s)) ≡ sum (map count_of (differences_of p n s))
 
 module _ (p : ℕ) (n : ℤ) (s : List ℕ) where
-  pub judging_first : 40 + 4 * p ≤ length s → Judging p n s p 40 (40 + 4 * p) 0
-  judging_first h = record { pairs = omega arith; inside = h; tests_left = λ a. refl; points-left = zero-add _ }
-
   module _ (left start at points : ℕ) (j : Judging p n s left start at points) where
     pub judging_refused : 0 < left → wrong_size 0 ≡ said_at left start n s → PartsWalk p n s (Err (CountsErrorIs.Size start))
     judging_refused h e a = j.tests_left a ∙ part_refused left start at n s h e a
@@ -116,6 +113,3 @@ module _ (n at : ℕ) (s : List ℕ) where
 
   pub measure_whole : (end : ℕ) → FieldsEnd 8 (2 + n) at (length s) (Ok end) → MeasureWalk true n at s (Ok end)
   measure_whole end q = ((λ a. fields_pass 8 (lit< tt) (2 + n) at s a end q), (omega arith, q.1))
-
-  pub measure_none : at ≤ length s → MeasureWalk false n at s (Ok at)
-  measure_none h = ((λ a. refl), (sym (add-zero at), h))

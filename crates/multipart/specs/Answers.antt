@@ -29,6 +29,7 @@ abbrev pub refusal : {A : Type 0} → CountsError → Said A
 refusal (CountsErrorIs.Short e) = short e.at e.present
 refusal (CountsErrorIs.Size at) = wrong_size at
 
+-- the same two numbers, by the name that the crates above use
 abbrev pub Two : Type 0
 Two = Counts
 

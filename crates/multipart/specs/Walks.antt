@@ -8,6 +8,7 @@ use Rattle.format.specs.Said.{Said}
 use Rattle.format.specs.Shapes.{sum}
 use Rattle.format.specs.declared.shapes.Short.{Short}
 use Rattle.multipart.specs.declared.Body.{Body}
+use Rattle.multipart.specs.declared.Counts.{Counts}
 use Rattle.multipart.specs.declared.CountsError.{CountsError}
 use Rattle.multipart.specs.declared.CountsError.TheVariants as CountsErrorIs
 use Rattle.multipart.specs.Answers.{refusal}
@@ -70,11 +71,11 @@ MeasureWalk flag n at s = Finds (measure_tests flag n at s) (λ end. (end ≡ en
 
 -- ---- the body
 
--- the counts are well, and there are p parts
-pub record Counted (parts : Bool) (s : List ℕ) (p : ℕ) : Type 0 where
+-- the counts are well, and these are what the body says
+pub record Counted (parts : Bool) (s : List ℕ) (said : Counts) : Type 0 where
   pub long : number_at parts + 4 ≤ length s
-  pub parts_are : p ≡ parts_in parts s
-  pub number_held : non_neg (le_i32 (number_at parts) s) ≡ true
+  pub parts_are : said.parts ≡ parts_in parts s
+  pub number_is : le_i32 (number_at parts) s ≡ pos said.points
   pub passes : Passes (count_tests parts s)
 
 -- the walk over the pairs finds how many points are read, and all pairs of these are there
@@ -99,13 +100,13 @@ body_at z m p points end s =
       points = points;
     }
 
--- a body that was judged, with these parts and points, and stores of these lengths that have room for it
-pub record Ready (parts z m : Bool) (s : List ℕ) (p : ℕ) (n : ℤ) (points counts xs ys zs ms : ℕ) : Type 0 where
-  pub parts_are : p ≡ parts_in parts s
-  pub number_is : n ≡ le_i32 (number_at parts) s
+-- a body that was judged, which says these counts and has these points, and stores of these lengths that have room for it
+pub record Ready (parts z m : Bool) (s : List ℕ) (said : Counts) (points counts xs ys zs ms : ℕ) : Type 0 where
+  pub parts_are : said.parts ≡ parts_in parts s
+  pub number_is : le_i32 (number_at parts) s ≡ pos said.points
   pub points_are : points ≡ points_in parts s
   pub ends : end_after m (points_in parts s) (m_at parts z s) ≤ length s
-  pub room : has_room z m p points counts xs ys zs ms ≡ true
+  pub room : has_room z m said.parts points counts xs ys zs ms ≡ true
 
 -- what is stored of it
 pub record Stores (parts z m : Bool) (s counts : List ℕ) (xs ys zs ms : List Float) (body : Body) (counts' : List ℕ) (xs' ys' zs' ms' : List Float) : Type 0 where

@@ -1,12 +1,12 @@
 // The first walk over a body: which field is cut or wrong, and how many points are read. It stores nothing.
-ghost use Rattle.std.specs.Prelude.{◌≡◌, ◌+◌, ◌*◌, ◌≤◌, ◌<◌, ◌^◌, length};
+ghost use Rattle.std.specs.Prelude.{◌≡◌, ◌+◌, ◌*◌, ◌≤◌, ◌<◌, ◌^◌, pos, length};
 ghost use Rattle.format.specs.Numbers.{le_i32};
 ghost use Rattle.multipart.specs.Answers.{said_part, part_of};
 ghost use Rattle.multipart.specs.Body.{number_at};
 ghost use Rattle.multipart.specs.Parts.{starts_at};
 ghost use Rattle.multipart.specs.Walks.{FieldsEnd, NotNegative, end_of, end_after, Counted, PartsWalk, MeasureWalk, PairsWalk, RestWalk};
 
-use crate::{CountsError, part_count};
+use crate::{Counts, CountsError, part_count};
 use format::shapes::{Layout, Short};
 
 // Where n fields of a width end, from a place on; or the one of them that the bytes end inside.
@@ -60,16 +60,18 @@ pub(crate) fn part_at(s: &[u8], start: usize, follow: usize, n: i32) -> Option<u
     }
 }
 
-// The p parts in turn, whose starts stand from 40 on: how many points they have. The pairs of a part stand where those of the part before it end.
-fn judge_parts(s: &[u8], p: usize, n: i32) -> Result<usize, CountsError>
-    requires { 40 + 4 * p ≤ length s.now }
-    ensures { PartsWalk p n s.now result }
+// The parts in turn, whose starts stand from 40 on: how many points they have. The pairs of a part stand where those of the part before it end.
+fn judge_parts(s: &[u8], said: Counts) -> Result<usize, CountsError>
+    requires { (40 + 4 * said.parts ≤ length s.now) × (said.points < 2 ^ 31) }
+    ensures { PartsWalk said.parts (pos said.points) s.now result }
 {
+    // a cast that widens: no `From<u32>` is there for `usize`
+    let p = said.parts as usize;
     let mut at = 40 + 4 * p;
     let mut points = 0;
     for i in 0..p {
         let start = 40 + 4 * i;
-        let Some(count) = part_at(s, start, p - i - 1, n) else {
+        let Some(count) = part_at(s, start, p - i - 1, said.points as i32) else {
             return Err(CountsError::Size(start));
         };
         let count = count as usize;
@@ -99,28 +101,28 @@ fn judge_measure(s: &[u8], flag: bool, n: usize, at: usize) -> Result<usize, Cou
     }
 }
 
-// The pairs, behind the starts of p parts, or the n pairs of a multipoint: how many points are read.
-fn judge_pairs(s: &[u8], parts: bool, p: usize, n: i32) -> Result<usize, CountsError>
-    requires { (Counted parts s.now p) × (n ≡ le_i32 (number_at parts) s.now) }
+// The pairs, behind the starts of parts, or those of a multipoint: how many points are read.
+fn judge_pairs(s: &[u8], parts: bool, said: Counts) -> Result<usize, CountsError>
+    requires { Counted parts s.now said }
     ensures { PairsWalk parts s.now result }
 {
     if parts {
-        fields_end(s, 40, 4, p)?;
-        judge_parts(s, p, n)
+        fields_end(s, 40, 4, said.parts as usize)?;
+        judge_parts(s, said)
     } else {
-        let points = n as usize;
+        let points = said.points as usize;
         fields_end(s, 36, 8, 2 * points)?;
         Ok(points)
     }
 }
 
 // All that follows the counts: how many points are read.
-pub(crate) fn judge_rest(s: &[u8], layout: Layout, p: usize, n: i32) -> Result<usize, CountsError>
-    requires { (Counted layout.parts s.now p) × (n ≡ le_i32 (number_at layout.parts) s.now) }
+pub(crate) fn judge_rest(s: &[u8], layout: Layout, said: Counts) -> Result<usize, CountsError>
+    requires { Counted layout.parts s.now said }
     ensures { RestWalk layout.parts layout.z layout.m s.now result }
 {
-    let points = judge_pairs(s, layout.parts, p, n)?;
-    let z_at = pairs_at(layout.parts, p) + 16 * points;
+    let points = judge_pairs(s, layout.parts, said)?;
+    let z_at = pairs_at(layout.parts, said.parts as usize) + 16 * points;
     let m_at = judge_measure(s, layout.z, points, z_at)?;
     judge_measure(s, layout.m, points, m_at)?;
     Ok(points)

@@ -121,21 +121,11 @@ pub fn read_body(
 ) -> Result<Body, BodyError>
     ensures { ReadsBody layout.parts layout.z layout.m s.now counts.old xs.old ys.old zs.old ms.old result counts.new xs.new ys.new zs.new ms.new }
 {
-    let p = read_counts(s, layout.parts)?.parts as usize;
-    let n = fields::le_i32_at(s, judge::number_at(layout.parts));
-    let points = judge::judge_rest(s, layout, p, n)?;
-    let room = store::has_room(
-        layout,
-        p,
-        points,
-        counts.len(),
-        xs.len(),
-        ys.len(),
-        zs.len(),
-        ms.len(),
-    );
-    if !room {
-        return Err(BodyError::Room { parts: p, points });
+    let said = read_counts(s, layout.parts)?;
+    let points = judge::judge_rest(s, layout, said)?;
+    let parts = said.parts as usize;
+    if !store::has_room(layout, parts, points, counts, xs, ys, zs, ms) {
+        return Err(BodyError::Room { parts, points });
     }
-    Ok(store::store_body(s, layout, p, n, points, counts, xs, ys, zs, ms))
+    Ok(store::store_body(s, layout, said, points, counts, xs, ys, zs, ms))
 }

@@ -1,12 +1,12 @@
 // What a body that was judged puts into the lent stores, each from its front on.
-ghost use Rattle.std.specs.Prelude.{◌≡◌, cond, [], map, ◌+◌, ◌*◌, ◌≤◌, ◌-ℤ◌, length};
+ghost use Rattle.std.specs.Prelude.{◌≡◌, cond, [], map, ◌+◌, ◌*◌, ◌≤◌, ◌<◌, ◌^◌, ◌-ℤ◌, pos, length};
 ghost use Rattle.std.proofs.lemmas.List.Edits.{sets};
 ghost use Rattle.format.specs.Numbers.{le_i32, doubles_at};
 ghost use Rattle.multipart.specs.Body.{raised, range_at, no_range, has_room};
 ghost use Rattle.multipart.specs.Parts.{count_of, starts_at};
 ghost use Rattle.multipart.specs.Walks.{end_of, end_after, differences_of, body_at, Ready, Stores};
 
-use crate::{BBox, Body, Range, judge};
+use crate::{BBox, Body, Counts, Range, judge};
 use format::shapes::Layout;
 
 // A part's count of points; none, where the part is refused.
@@ -17,14 +17,15 @@ fn count_at(s: &[u8], start: usize, follow: usize, n: i32) -> u32
     judge::part_at(s, start, follow, n).unwrap_or(0)
 }
 
-// One count for each of p parts, where the flag is set: a multipoint has none.
-fn store_counts(s: &[u8], parts: bool, p: usize, n: i32, counts: &mut [u32])
-    requires { (cond parts (40 + 4 * p) 0 ≤ length s.now) × (p ≤ length counts.old) }
-    ensures { counts.new ≡ sets counts.old 0 (cond parts (map count_of (differences_of p n s.now)) []) }
+// One count for each part, where the flag is set: a multipoint has none.
+fn store_counts(s: &[u8], parts: bool, said: Counts, counts: &mut [u32])
+    requires { (cond parts (40 + 4 * said.parts) 0 ≤ length s.now) × (said.points < 2 ^ 31) × (said.parts ≤ length counts.old) }
+    ensures { counts.new ≡ sets counts.old 0 (cond parts (map count_of (differences_of said.parts (pos said.points) s.now)) []) }
 {
     if parts {
+        let p = said.parts as usize;
         for i in 0..p {
-            counts[i] = count_at(s, 40 + 4 * i, p - i - 1, n);
+            counts[i] = count_at(s, 40 + 4 * i, p - i - 1, said.points as i32);
         }
     }
 }
@@ -97,20 +98,24 @@ fn range_at(s: &[u8], flag: bool, at: usize) -> Range
     }
 }
 
-// Whether stores of these lengths hold p parts and n points; z and m only where they are used.
+// Whether the stores hold p parts and n points; z and m only where they are used.
 pub(crate) fn has_room(
     layout: Layout,
     p: usize,
     n: usize,
-    counts: usize,
-    xs: usize,
-    ys: usize,
-    zs: usize,
-    ms: usize,
+    counts: &[u32],
+    xs: &[f64],
+    ys: &[f64],
+    zs: &[f64],
+    ms: &[f64],
 ) -> bool
-    ensures { result ≡ has_room layout.z layout.m p n counts xs ys zs ms }
+    ensures { result ≡ has_room layout.z layout.m p n (length counts.now) (length xs.now) (length ys.now) (length zs.now) (length ms.now) }
 {
-    p <= counts && n <= xs && n <= ys && (!layout.z || n <= zs) && (!layout.m || n <= ms)
+    p <= counts.len()
+        && n <= xs.len()
+        && n <= ys.len()
+        && (!layout.z || n <= zs.len())
+        && (!layout.m || n <= ms.len())
 }
 
 // What a body with these counts holds beside the values; its pairs end at a place.
@@ -133,12 +138,11 @@ fn body_at(s: &[u8], layout: Layout, parts: usize, points: usize, end: usize) ->
     }
 }
 
-// All values of a body with these parts and points, into stores that have room for them.
+// All values of a body that says these counts and has these points, into stores that have room for them.
 pub(crate) fn store_body(
     s: &[u8],
     layout: Layout,
-    p: usize,
-    n: i32,
+    said: Counts,
     points: usize,
     counts: &mut [u32],
     xs: &mut [f64],
@@ -146,12 +150,13 @@ pub(crate) fn store_body(
     zs: &mut [f64],
     ms: &mut [f64],
 ) -> Body
-    requires { Ready layout.parts layout.z layout.m s.now p n points (length counts.old) (length xs.old) (length ys.old) (length zs.old) (length ms.old) }
+    requires { Ready layout.parts layout.z layout.m s.now said points (length counts.old) (length xs.old) (length ys.old) (length zs.old) (length ms.old) }
     ensures { Stores layout.parts layout.z layout.m s.now counts.old xs.old ys.old zs.old ms.old result counts.new xs.new ys.new zs.new ms.new }
 {
+    let p = said.parts as usize;
     let at = judge::pairs_at(layout.parts, p);
     let end = at + 16 * points;
-    store_counts(s, layout.parts, p, n, counts);
+    store_counts(s, layout.parts, said, counts);
     store_pairs(s, at, points, xs, ys);
     store_z(s, layout.z, points, end, zs);
     let m_at = judge::end_after(layout.z, points, end);

@@ -18,21 +18,21 @@ pub returns-in_err-points : goal.returns-in_err-points
 returns-in_err-points c = rw (told_err _ _ c.from_residual.ensures.1) (pairs_stop _ _ _ _ _ c.in_err-points.ensures)
 
 pub pairs_at-requires : goal.pairs_at-requires
-pairs_at-requires c = omega (arith, pairs-inside _ _ _ _ c.requires.0.parts_are c.in_ok-points.ensures.1)
+pairs_at-requires c = omega (arith, pairs-inside _ _ _ _ c.requires.parts_are c.in_ok-points.ensures.1)
 
 pub overflow_mul-z_at : goal.overflow_mul-z_at
-overflow_mul-z_at c = omega (arith, pairs-inside _ _ _ _ c.requires.0.parts_are c.in_ok-points.ensures.1)
+overflow_mul-z_at c = omega (arith, pairs-inside _ _ _ _ c.requires.parts_are c.in_ok-points.ensures.1)
 
 pub overflow_add-z_at : goal.overflow_add-z_at
-overflow_add-z_at c = omega (arith, pairs-inside _ _ _ _ c.requires.0.parts_are c.in_ok-points.ensures.1, c.pairs_at.ensures)
+overflow_add-z_at c = omega (arith, pairs-inside _ _ _ _ c.requires.parts_are c.in_ok-points.ensures.1, c.pairs_at.ensures)
 
 pub judge_measure-requires : goal.judge_measure-requires
-judge_measure-requires c = omega (arith, pairs-inside _ _ _ _ c.requires.0.parts_are c.in_ok-points.ensures.1, c.pairs_at.ensures)
+judge_measure-requires c = omega (arith, pairs-inside _ _ _ _ c.requires.parts_are c.in_ok-points.ensures.1, c.pairs_at.ensures)
 
 pub returns-in_err-m_at : goal.returns-in_err-m_at
 returns-in_err-m_at c =
     let pairs = c.in_ok-points.ensures in
-    let start = z-start _ _ _ _ _ c.requires.0.parts_are pairs.1.0 c.pairs_at.ensures in
+    let start = z-start _ _ _ _ _ c.requires.parts_are pairs.1.0 c.pairs_at.ensures in
     rw (told_err _ _ c.from_residual-in_err-m_at.ensures.1)
     (z_stop _ _ _ _ pairs.0 _ (measure_found _ _ (Err _) (Err _) _ _ _ _ pairs.1.0 start refl c.in_err-m_at.ensures))
 
@@ -44,7 +44,7 @@ pub returns-in_err-judge_measure : goal.returns-in_err-judge_measure
 returns-in_err-judge_measure c =
     let pairs = c.in_ok-points.ensures in
     let values = c.in_ok-m_at.ensures in
-    let start = z-start _ _ _ _ _ c.requires.0.parts_are pairs.1.0 c.pairs_at.ensures in
+    let start = z-start _ _ _ _ _ c.requires.parts_are pairs.1.0 c.pairs_at.ensures in
     rw (told_err _ _ c.from_residual-in_err-judge_measure.ensures.1)
     (m_stop _ _ _ _ pairs.0 (measure_found _ _ (Ok _) (Ok _) _ _ _ _ pairs.1.0 start refl values).0 _
     (measure_found _ _ (Err _) (Err _) _ _ _ _ pairs.1.0 (m-start _ _ _ _ _ _ pairs.1.0 start values.1.0) refl c.in_err-judge_measure.ensures))
@@ -53,7 +53,7 @@ pub returns : goal.returns
 returns c =
     let pairs = c.in_ok-points.ensures in
     let values = c.in_ok-m_at.ensures in
-    let start = z-start _ _ _ _ _ c.requires.0.parts_are pairs.1.0 c.pairs_at.ensures in
+    let start = z-start _ _ _ _ _ c.requires.parts_are pairs.1.0 c.pairs_at.ensures in
     let z = measure_found _ _ (Ok _) (Ok _) _ _ _ _ pairs.1.0 start refl values in
     let m = measure_found _ _ (Ok _) (Ok _) _ _ _ _ pairs.1.0 (m-start _ _ _ _ _ _ pairs.1.0 start values.1.0) refl c.in_ok-judge_measure.ensures in
     (rest_pass _ _ _ _ pairs.0 z.0 m.0, (pairs.1.0, rw (← m.1.0) m.1.1))

@@ -1,5 +1,5 @@
 -- `multipart::store::store_counts`: the counts that are left to store complete the store.
-use Rattle.std.proofs.Common.{◌≡◌, ◌+◌, ◌*◌, ◌-◌, length, map}
+use Rattle.std.proofs.Common.{◌≡◌, ◌+◌, ◌*◌, ◌-◌, length, map, pos}
 use lib.Seq.{sets}
 use Rattle.multipart.specs.Parts.{count_of}
 use Rattle.multipart.specs.Walks.{differences_of}
@@ -10,5 +10,5 @@ abbrev pub invariant-loop-i : goal.invariant-loop-i
 invariant-loop-i l =
     record {
       same_length : length l.counts ≡ length l.initial.counts;
-      left : sets l.counts l.i (map count_of (differences_from (l.p - l.i) (40 + 4 * l.i) l.n l.s)) ≡ sets l.initial.counts 0 (map count_of (differences_of l.p l.n l.s));
+      left : sets l.counts l.i (map count_of (differences_from (l.said.parts - l.i) (40 + 4 * l.i) (pos l.said.points) l.s)) ≡ sets l.initial.counts 0 (map count_of (differences_of l.said.parts (pos l.said.points) l.s));
     }
