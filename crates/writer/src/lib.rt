@@ -17,7 +17,8 @@ mod judge;
 mod record;
 pub mod states;
 
-// The words written so far, the next record's number, the kind's code, the points written so far and the header's box.
+// The words written so far, the next record's number, the kind's code, the points written so far and the header's box. (A plain struct for C, as
+// `mbenaruul_add_record` takes it: a fresh state has kind 0, and no `Option`.)
 #[repr(C)]
 #[derive(Clone, Copy)]
 pub struct State {
