@@ -3,21 +3,18 @@ use mathlib.Core.Path.{◌≡◌, refl, sym, ap, ◌∙◌, subst}
 use mathlib.Core.Bool.{Bool, true, false, cond, ◌&&◌, ◌||◌, not}
 use mathlib.Core.List.{List, [], ◌∷◌}
 use mathlib.Core.Option.{Option, none, some}
-use Prim.Native.Nat.{ℕ, zero, suc, ◌+◌, ◌^◌, ◌≤◌, ◌<◌}
+use Prim.Native.Nat.{ℕ, zero, suc, ◌^◌, ◌≤◌, ◌<◌}
 use native.Mathlib.Nat.{not-suc-le-zero, le_of_suc-le-suc}
-use native.Mathlib.Numerals.{add-one}
 use native.Mathlib.Omega.{arith}
-use lib.Dec.{T, eqb, ltb}
-use lib.IntN.{ℤ, pos, negsuc, nat_abs}
-use lib.ListN.{length, get_or, get_elem?, drop}
-use lib.Seq.{drop-cons}
-use lib.Signed.{lt_z}
+use lib.Dec.{eqb, ltb}
+use lib.IntN.{ℤ, pos, negsuc}
+use lib.ListN.{length, get_or, get_elem?}
 use mir.Val.{sel}
 use Rattle.std.specs.List.{position_or_len}
 use Rattle.std.proofs.lemmas.List.Recursion.{is_position_or_len}
 use Rattle.std.specs.Prelude as Std
 use Rattle.std.specs.Prelude.{Result, Ok, Err}
-use borrow.Author.Tests.{ltb-true, ltb-false, eq-eqb, eqb-true, ne_eqb}
+use borrow.Author.Tests.{ltb-true, ltb-false, eqb-true}
 use Rattle.format.specs.declared.kinds.Kind.{Kind}
 use Rattle.format.specs.declared.kinds.UnknownKind.{UnknownKind}
 use Rattle.format.specs.Encoding.{Held}
@@ -30,16 +27,6 @@ use Rattle.format.specs.Numbers.{le_i32}
 use Rattle.format.specs.Said.{gives, unknown, is_given}
 use Rattle.format.specs.Shapes.{there}
 use Rattle.format.proofs.OrderLaws.{both_true}
-
--- with d for a row past the end: the search ends at row i, or goes on
-module _ (code : ℕ) (l : List Kind) (d : Kind) (i : ℕ) (h : i < length l) where
-  pub row_here : (get_or l i d).code ≡ code → row_of code (drop i l) ≡ 0
-  unfolding row_of
-  row_here e = rw (drop-cons l i d h, eq-eqb _ _ e)
-
-  pub row_on : ((get_or l i d).code ≡ code → ⊥) → row_of code (drop i l) ≡ suc (row_of code (drop (i + 1) l))
-  unfolding row_of
-  row_on e = rw (add-one, drop-cons l i d h, ne_eqb _ _ e)
 
 -- a search by the code passes as many rows, and no more than there are
 rows_passed : (code : ℕ) (l : List Kind) → row_of code l ≡ position_or_len (λ (k : Kind). eqb k.code code) l
@@ -202,15 +189,6 @@ module _ (z : ℤ) (i : ℕ) (r : i ≡ row_at z) where
   pub kind-out : 14 ≤ i → kind_at z ≡ none
   unfolding kinds
   kind-out h = kind_at_row z ∙ (ap (get_elem? kinds) (sym r) ∙ elem_out kinds i h)
-
-pub row_neg : (z : ℤ) → lt_z z (pos 0) ≡ true → 14 ≡ row_at z
-unfolding kinds
-row_neg (pos n) e = absurd (not-suc-le-zero (ltb-true n 0 e))
-row_neg (negsuc n) e = refl
-
-pub row_non : (z : ℤ) → lt_z z (pos 0) ≡ false → row_of (nat_abs z) kinds ≡ row_at z
-row_non (pos n) e = refl
-row_non (negsuc n) e = absurd (subst T e tt)
 
 -- ---- codes of 32 bits
 

@@ -3,13 +3,12 @@ use mathlib.Core.Path.{◌≡◌, refl, sym, ap, ◌∙◌, subst}
 use mathlib.Core.Bool.{Bool, true, false, not}
 use Prim.Native.Nat.{ℕ, ◌*◌, ◌%◌, ◌^◌, ◌≤◌, ◌<◌}
 use lib.Dec.{T}
-use lib.Ieee.{Float, nan, inf, fin, Format, ones, hid, top, binary64, fits, is_nan, nan_bits, of_bits, to_bits, div, ne}
+use lib.Ieee.{Float, nan, inf, fin, Format, ones, hid, top, binary64, fits, is_nan, nan_bits, of_bits, to_bits}
 use lib.Ieee.Bits.{nan_bits_is, nan_bits_above, of_bits-to_bits, to_bits-of_bits}
-use lib.Ieee.Compare.{nan_differs, differs_from_itself}
 use borrow.Author.Tests.{lt-ltb, le-ltb}
 use Rattle.format.specs.Numbers.{PlainNan}
 
-is-nan : (x : Float) → is_nan x ≡ true → x ≡ nan
+pub is-nan : (x : Float) → is_nan x ≡ true → x ≡ nan
 unfolding is_nan
 is-nan nan e = refl
 is-nan (inf s) e = absurd (subst T (sym e) tt)
@@ -22,19 +21,6 @@ nan_pattern f n h = is-nan (of_bits f n) (sym (nan_bits_is f n) ∙ nan_bits_abo
 -- and no other is
 pub no_nan_pattern : (f : Format) (n : ℕ) → n % top f ≤ ones f * hid f → T (not (nan_bits f n))
 no_nan_pattern f n h = subst (λ (b : Bool). T (not b)) (sym (nan_bits_above f n ∙ le-ltb _ _ h)) tt
-
-pub same_no_nan : (x : Float) → ne x x ≡ false → T (not (is_nan x))
-unfolding is_nan
-same_no_nan nan e = subst T (sym nan_differs ∙ e) tt
-same_no_nan (inf s) e = tt
-same_no_nan (fin s m e) h = tt
-
-pub differs_nan : (x : Float) → ne x x ≡ true → x ≡ nan
-differs_nan x e = differs_from_itself x (subst T (sym e) tt)
-
-pub zero_by_zero : div binary64 (of_bits binary64 0) (of_bits binary64 0) ≡ nan
-unfolding div of_bits
-zero_by_zero = refl
 
 pub nan-bits : to_bits binary64 nan ≡ 0x7ff8_0000_0000_0000
 unfolding to_bits

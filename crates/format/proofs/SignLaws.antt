@@ -18,19 +18,9 @@ neg : (w : Width) (z : ℤ) → SFits w z → lt_z z (pos 0) ≡ true → 2 ^ hb
 neg w (pos n) f e = let h : n < 0 = ltb-true n 0 e in omega arith
 neg w (negsuc n) f e = omega (arith, pow-bits w)
 
-non : (w : Width) (z : ℤ) → SFits w z → lt_z z (pos 0) ≡ false → of_z w z < 2 ^ hbits w
-non w (pos n) f e = omega arith
-non w (negsuc n) f e = absurd (subst T e tt)
-
 -- a test `z < 0` in code is of what the machine reads back from the bits: here it is of z
 pub sign_test : (w : Width) (z : ℤ) → SFits w z → (b : Bool) → lt_z (to_z w (of_z w z)) (pos 0) ≡ b → lt_z z (pos 0) ≡ b
 sign_test w z f b e = ap (λ (x : ℤ). lt_z x (pos 0)) (sym (to_z-of_z w z f)) ∙ e
-
-pub neg_bits : (w : Width) (z : ℤ) → SFits w z → lt_z (to_z w (of_z w z)) (pos 0) ≡ true → 2 ^ hbits w ≤ of_z w z
-neg_bits w z f e = neg w z f (sign_test w z f true e)
-
-pub non_bits : (w : Width) (z : ℤ) → SFits w z → lt_z (to_z w (of_z w z)) (pos 0) ≡ false → of_z w z < 2 ^ hbits w
-non_bits w z f e = non w z f (sign_test w z f false e)
 
 -- A signed local holds bits, so what comes out of one is `to_z w (of_z w z)`, which is z. Of a call's result `c.f.ok` is the bound.
 pub back : (w : Width) (z : ℤ) → mag z < 2 ^ hbits w → to_z w (of_z w z) ≡ z

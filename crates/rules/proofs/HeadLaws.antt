@@ -1,34 +1,18 @@
--- The rules of a record's header, entry, kind and counts, a test at a time: what each test makes of its rule, and what a rule that is met tells.
+-- The rules of a record's header, entry and counts: what a rule that is met tells, and what the tests of the counts make of theirs.
 use mathlib.Core.Path.{◌≡◌, refl, sym, ◌∙◌}
 use mathlib.Core.Bool.{Bool, true, false, cond, ◌&&◌, ◌||◌}
 use mathlib.Core.List.{List}
 use mathlib.Core.Logic.{◌⊎◌, inl, inr, ⊎_elim}
 use Prim.Native.Nat.{ℕ, ◌+◌, ◌*◌, ◌^◌, ◌≤◌, ◌<◌}
 use native.Mathlib.Omega.{arith}
-use lib.Dec.{leb, ltb, eqb}
+use lib.Dec.{leb, eqb}
 use lib.ListN.{length}
-use borrow.Author.Tests.{lt-ltb, le-ltb, le-leb, lt-leb, eq-eqb, ne_eqb, ltb-true, leb-true, eqb-true}
-use Rattle.format.specs.declared.kinds.Kind.{Kind}
+use borrow.Author.Tests.{lt-ltb, ltb-true, leb-true, eqb-true}
 use Rattle.format.specs.Lengths.{several_form, may_lack_m, front_words, content_words, lengths_for, formula_words}
 use Rattle.format.proofs.Equations.{words_are}
 use Rattle.format.proofs.LengthLaws.{least-words}
 use Rattle.format.proofs.OrderLaws.{both_true}
-use Rattle.rules.specs.Rules.{Taken, big_at, little_at, held, words_of, parts_of, points_of, P9, P10, P11, P12, P13}
-
--- ---- P9
-
-module _ (l : List ℕ) (k : ℕ) where
-  pub short9 : length l < 8 → false ≡ P9 l k
-  short9 h = rw (lt-leb 8 (length l) h)
-
-  pub other9 : 8 ≤ length l → (big_at 0 l ≡ k → ⊥) → false ≡ P9 l k
-  other9 h n = rw (le-leb 8 (length l) h, ne_eqb (big_at 0 l) k n)
-
-  pub last9 : 8 ≤ length l → big_at 0 l ≡ k → ltb k (2 ^ 31) ≡ P9 l k
-  last9 h e = rw (le-leb 8 (length l) h, eq-eqb (big_at 0 l) k e)
-
-  pub told9 : P9 l k ≡ true → 8 ≤ length l
-  told9 e = leb-true 8 (length l) (both_true _ _ (both_true _ (held k) e).0).0
+use Rattle.rules.specs.Rules.{Taken, big_at, held, words_of, parts_of, points_of, P10, P11, P13}
 
 -- ---- P10
 
@@ -38,15 +22,6 @@ pub record Inside (l : List ℕ) : Type 0 where
   pub within : 8 + 2 * words_of l ≤ length l
 
 module _ (l : List ℕ) where
-  pub negative10 : 2 ^ 31 ≤ words_of l → false ≡ P10 l
-  negative10 h = rw (le-ltb (words_of l) (2 ^ 31) h)
-
-  pub few10 : words_of l < 2 ^ 31 → words_of l < 2 → false ≡ P10 l
-  few10 h f = rw (lt-ltb (words_of l) (2 ^ 31) h, lt-leb 2 (words_of l) f)
-
-  pub last10 : words_of l < 2 ^ 31 → 2 ≤ words_of l → leb (8 + 2 * words_of l) (length l) ≡ P10 l
-  last10 h f = rw (lt-ltb (words_of l) (2 ^ 31) h, le-leb 2 (words_of l) f)
-
   pub told10 : P10 l ≡ true → Inside l
   told10 e =
       let a = both_true _ (leb (8 + 2 * words_of l) (length l)) e in
@@ -56,31 +31,8 @@ module _ (l : List ℕ) where
 -- ---- P11
 
 module _ (l x : List ℕ) (at : ℕ) where
-  pub none11 : length x < 8 → false ≡ P11 l x at
-  none11 h = rw (lt-leb 8 (length x) h)
-
-  module _ (h : 8 ≤ length x) where
-    pub negative11 : 2 ^ 31 ≤ big_at 0 x → false ≡ P11 l x at
-    negative11 n = rw (le-leb 8 (length x) h, le-ltb (big_at 0 x) (2 ^ 31) n)
-
-    module _ (p : big_at 0 x < 2 ^ 31) where
-      pub offset11 : (2 * big_at 0 x ≡ at → ⊥) → false ≡ P11 l x at
-      offset11 n = rw (le-leb 8 (length x) h, lt-ltb (big_at 0 x) (2 ^ 31) p, ne_eqb (2 * big_at 0 x) at n)
-
-      pub last11 : 2 * big_at 0 x ≡ at → eqb (big_at 4 x) (words_of l) ≡ P11 l x at
-      last11 e = rw (le-leb 8 (length x) h, lt-ltb (big_at 0 x) (2 ^ 31) p, eq-eqb (2 * big_at 0 x) at e)
-
   pub told11 : P11 l x at ≡ true → 8 ≤ length x
   told11 e = leb-true 8 (length x) (both_true _ _ (both_true _ _ (both_true _ (eqb (big_at 4 x) (words_of l)) e).0).0).0
-
--- ---- P12
-
-module _ (k : Kind) (l : List ℕ) (code : ℕ) (is : little_at 8 l ≡ code) where
-  pub same12 : code ≡ k.code → true ≡ P12 k l
-  same12 e = rw (eq-eqb (little_at 8 l) k.code (is ∙ e))
-
-  pub last12 : (code ≡ k.code → ⊥) → eqb code 0 ≡ P12 k l
-  last12 n = rw (is, ne_eqb code k.code n)
 
 -- ---- P13
 
@@ -127,12 +79,6 @@ module _ (f : Bool) (t : Taken) (l : List ℕ) (h : t.form ≡ several_form f) w
       by : (q : Bool) → P13 t l ≡ q → false ≡ q
       by true e = absurd (omega (arith, room13 e))
       by false e = refl
-
-  pub parts13 : 2 ^ 31 ≤ p → false ≡ P13 t l
-  parts13 i = sym (as_several ∙ rw (le-ltb p (2 ^ 31) i))
-
-  pub points13 : p < 2 ^ 31 → 2 ^ 31 ≤ n → false ≡ P13 t l
-  points13 i j = sym (as_several ∙ rw (lt-ltb p (2 ^ 31) i, le-ltb n (2 ^ 31) j))
 
   pub last13 : (p' n' words : ℕ) → p ≡ p' → n ≡ n' → words_of l ≡ words → p' < 2 ^ 31 → n' < 2 ^ 31 → fits t p' n' words ≡ P13 t l
   last13 p' n' words e g w i j =

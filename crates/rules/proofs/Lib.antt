@@ -6,7 +6,6 @@ pub mod FirstFault
 pub mod HeadLaws
 pub mod HeaderRules
 pub mod Numbered
-pub mod PlaceLaws
 pub mod Turns
 pub mod VerdictLaws
 pub mod WalkLaws

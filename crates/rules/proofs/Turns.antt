@@ -1,4 +1,4 @@
--- One turn of each rule that goes over bytes, doubles, parts or rings, in a loop's terms: what is left before the turn is the turn and what is left after it.
+-- One turn of each rule that goes over doubles, parts or rings, in a loop's terms: what is left before the turn is the turn and what is left after it.
 use mathlib.Core.Path.{◌≡◌, refl}
 use mathlib.Core.Bool.{true, false}
 use mathlib.Core.List.{List}
@@ -6,51 +6,10 @@ use Prim.Native.Nat.{ℕ, zero, suc, ◌+◌, ◌-◌, ◌≤◌, ◌<◌}
 use native.Mathlib.Nat.{le_refl}
 use native.Mathlib.Omega.{arith}
 use lib.Dec.{leb}
-use lib.ListN.{length, get_or, replicate}
-use borrow.Author.Tests.{eq-eqb, ne_eqb, le-leb, lt-leb, leb-true}
-use Rattle.format.specs.Bytes.{field}
+use borrow.Author.Tests.{le-leb, lt-leb, leb-true}
 use Rattle.format.specs.Numbers.{finite}
-use Rattle.format.proofs.ByteLaws.{field-none, field-cons}
 use Rattle.format.proofs.OrderLaws.{both_true}
-use Rattle.rules.specs.Rules.{little_at, double_at, same_bytes, finites, end_of, parts_long, ring_closed, rings_closed}
-
--- ---- bytes
-
-module _ (a b : List ℕ) (i : ℕ) where
-  pub same_go : (r : ℕ) → 0 < r → i < length a → i < length b → get_or a i 0 ≡ get_or b i 0 → same_bytes (field (r - 1) (i + 1) a) (field (r - 1) (i + 1) b) ≡ same_bytes (field r i a) (field r i b)
-  unfolding same_bytes
-  same_go zero h p q e = absurd (omega arith)
-  same_go (suc r) h p q e =
-      let d : suc r - 1 ≡ r = omega arith in
-      rw (d, field-cons r i a p, field-cons r i b q, eq-eqb (get_or a i 0) (get_or b i 0) e)
-
-  pub same_no : (r : ℕ) → 0 < r → i < length a → i < length b → (get_or a i 0 ≡ get_or b i 0 → ⊥) → same_bytes (field r i a) (field r i b) ≡ false
-  unfolding same_bytes
-  same_no zero h p q e = absurd (omega arith)
-  same_no (suc r) h p q e = rw (field-cons r i a p, field-cons r i b q, ne_eqb (get_or a i 0) (get_or b i 0) e)
-
-  pub same_done : (r : ℕ) → r ≤ 0 → same_bytes (field r i a) (field r i b) ≡ true
-  unfolding same_bytes
-  same_done zero h = rw (field-none i a, field-none i b)
-  same_done (suc r) h = absurd (omega arith)
-
-module _ (s : List ℕ) (i : ℕ) where
-  pub zero_go : (r : ℕ) → 0 < r → i < length s → get_or s i 0 ≡ 0 → same_bytes (field (r - 1) (i + 1) s) (replicate (r - 1) 0) ≡ same_bytes (field r i s) (replicate r 0)
-  unfolding same_bytes
-  zero_go zero h p e = absurd (omega arith)
-  zero_go (suc r) h p e =
-      let d : suc r - 1 ≡ r = omega arith in
-      rw (d, field-cons r i s p, eq-eqb (get_or s i 0) 0 e)
-
-  pub zero_no : (r : ℕ) → 0 < r → i < length s → (get_or s i 0 ≡ 0 → ⊥) → same_bytes (field r i s) (replicate r 0) ≡ false
-  unfolding same_bytes
-  zero_no zero h p e = absurd (omega arith)
-  zero_no (suc r) h p e = rw (field-cons r i s p, ne_eqb (get_or s i 0) 0 e)
-
-  pub zero_done : (r : ℕ) → r ≤ 0 → same_bytes (field r i s) (replicate r 0) ≡ true
-  unfolding same_bytes
-  zero_done zero h = rw (field-none i s)
-  zero_done (suc r) h = absurd (omega arith)
+use Rattle.rules.specs.Rules.{little_at, double_at, finites, end_of, parts_long, ring_closed, rings_closed}
 
 -- ---- doubles
 
@@ -73,10 +32,6 @@ module _ (s : List ℕ) (at : ℕ) where
   finites_done (suc r) h = absurd (omega arith)
 
 -- ---- parts
-
-pub end_some : (r at n : ℕ) (s : List ℕ) → (r ≡ 0 → ⊥) → end_of r at s n ≡ little_at at s
-end_some zero at n s h = absurd (h refl)
-end_some (suc r) at n s h = refl
 
 module _ (s : List ℕ) (n least at cur e : ℕ) where
   pub parts_go : (r : ℕ) → 0 < r → e ≡ end_of (r - 1) at s n → cur + least ≤ e → parts_long least (r - 1) (at + 4) e n s ≡ parts_long least r at cur n s
