@@ -32,12 +32,12 @@ VARIANTS = [
      'let points = judge::not_negative(first, 36)?;'),
     ('a cut pair of a multipoint is Short at the first', 'multipart/src/judge.rt', 'fields_end(s, 36, 8, 2 * points)?;',
      'if fields_end(s, 36, 8, 2 * points).is_err() {\n            return Err(CountsError::Short(Short { at: 36, present: s.len() - 36 }));\n        }'),
-    ('a refusal stores a count', 'multipart/src/lib.rt', 'let points = judge::judge_rest(s, layout, p, n)?;',
-     'let points = match judge::judge_rest(s, layout, p, n) {\n        Ok(points) => points,\n        Err(e) => {\n            if 0 < counts.len() {\n'
+    ('a refusal stores a count', 'multipart/src/lib.rt', 'let points = judge::judge_rest(s, layout, said)?;',
+     'let points = match judge::judge_rest(s, layout, said) {\n        Ok(points) => points,\n        Err(e) => {\n            if 0 < counts.len() {\n'
      '                counts[0] = 0;\n            }\n            return Err(BodyError::from(e));\n        }\n    };'),
-    ('counts that fill their store are refused', 'multipart/src/store.rt', 'p <= counts &&', 'p < counts &&'),
-    ('x that fill their store are refused', 'multipart/src/store.rt', '&& n <= xs &&', '&& n < xs &&'),
-    ('y that fill their store are refused', 'multipart/src/store.rt', '&& n <= ys &&', '&& n < ys &&'),
+    ('counts that fill their store are refused', 'multipart/src/store.rt', '    p <= counts.len()', '    p < counts.len()'),
+    ('x that fill their store are refused', 'multipart/src/store.rt', '&& n <= xs.len()', '&& n < xs.len()'),
+    ('y that fill their store are refused', 'multipart/src/store.rt', '&& n <= ys.len()', '&& n < ys.len()'),
     ('x and y are stored in each other\'s place', 'multipart/src/store.rt', '        xs[i] = x;\n        ys[i] = y;\n', '        xs[i] = y;\n        ys[i] = x;\n'),
     ('one m too many is stored', 'multipart/src/store.rt', '        for i in 0..n {\n            ms[i] = raise',
      '        for i in 0..n + 1 {\n            if i == ms.len() || s.len() < at + 24 + 8 * i {\n                break;\n            }\n            ms[i] = raise'),
