@@ -14,8 +14,8 @@ use std::io;
 
 // ---- headers
 
-fn show_header(rt: &impl Print, s: &[u8]) -> io::Result<()> {
-    match header::read_header(s) {
+fn show_header(rt: &impl Print, bytes: &[u8]) -> io::Result<()> {
+    match header::read_header(bytes) {
         Ok(h) => println!(rt; " 0 {} {} {}", h.file_length.0, h.version, h.shape_type),
         Err(HeaderError::Short(Short { at, present })) => println!(rt; " 1 {at} {present}"),
         Err(HeaderError::Code(code)) => println!(rt; " 2 {code}"),
@@ -70,19 +70,19 @@ fn headers(rt: &impl Print) -> io::Result<()> {
 
 // ---- lengths
 
-fn show_words(rt: &impl Print, f: Formula, p: u32, n: u32) -> io::Result<()> {
-    match format::lengths::content_words(f, p, n) {
+fn show_words(rt: &impl Print, formula: Formula, parts: u32, points: u32) -> io::Result<()> {
+    match format::lengths::content_words(formula, parts, points) {
         Some(Words(w)) => print!(rt; " {w}"),
         None => print!(rt; " 7 0"),
     }
 }
 
-fn show_content(rt: &impl Print, code: i32, p: u32, n: u32) -> io::Result<()> {
+fn show_content(rt: &impl Print, code: i32, parts: u32, points: u32) -> io::Result<()> {
     print!(rt; "words of {code}:")?;
     match format::lengths::lengths_of(code) {
-        Ok(l) => {
-            show_words(rt, l.without, p, n)?;
-            show_words(rt, l.with, p, n)?;
+        Ok(lengths) => {
+            show_words(rt, lengths.without, parts, points)?;
+            show_words(rt, lengths.with, parts, points)?;
         }
         Err(KindError::NotTaken(found)) => print!(rt; " 9 {found}")?,
         Err(KindError::Unknown(found)) => print!(rt; " 4 {found}")?,
@@ -111,8 +111,8 @@ fn lengths(rt: &impl Print) -> io::Result<()> {
         (-3, 0, 1),
         (13, 2147483647, 2147483647),
     ];
-    for (code, p, n) in contents {
-        show_content(rt, code, p, n)?;
+    for (code, parts, points) in contents {
+        show_content(rt, code, parts, points)?;
     }
     let entry = header::entries::index_entry_bytes(ShapeIndex {
         offset: Words(50),
@@ -146,7 +146,7 @@ fn kinds(rt: &impl Print) -> io::Result<()> {
 // ---- bodies
 
 // A body is read without z and without m: the parts, the points and the first two counts.
-fn show_body(rt: &impl Print, s: &[u8]) -> io::Result<()> {
+fn show_body(rt: &impl Print, bytes: &[u8]) -> io::Result<()> {
     let layout = Layout {
         parts: true,
         z: false,
@@ -155,7 +155,15 @@ fn show_body(rt: &impl Print, s: &[u8]) -> io::Result<()> {
     let mut counts = [9; 4];
     let mut xs = [0.5; 8];
     let mut ys = [0.5; 8];
-    match multipart::read_body(s, layout, &mut counts, &mut xs, &mut ys, &mut [], &mut []) {
+    match multipart::read_body(
+        bytes,
+        layout,
+        &mut counts,
+        &mut xs,
+        &mut ys,
+        &mut [],
+        &mut [],
+    ) {
         Ok(b) => println!(rt; " 0 {} {} {} {}", b.parts, b.points, counts[0], counts[1]),
         Err(BodyError::Short(Short { at, present })) => println!(rt; " 1 {at} {present}"),
         Err(BodyError::Size(at)) => println!(rt; " 3 {at}"),
@@ -165,11 +173,11 @@ fn show_body(rt: &impl Print, s: &[u8]) -> io::Result<()> {
 
 // p, n and three starts, where a body in parts has them, in front of zeros.
 fn body_of(numbers: [i32; 5]) -> [u8; 200] {
-    let mut s = [0; 200];
+    let mut bytes = [0; 200];
     for (i, z) in numbers.iter().enumerate() {
-        fields::put_le_i32(&mut s, 32 + 4 * i, *z);
+        fields::put_le_i32(&mut bytes, 32 + 4 * i, *z);
     }
-    s
+    bytes
 }
 
 fn bodies(rt: &impl Print) -> io::Result<()> {
@@ -185,8 +193,8 @@ fn bodies(rt: &impl Print) -> io::Result<()> {
     ];
     for (name, numbers, n) in bodies {
         print!(rt; "{name}:")?;
-        let s = body_of(numbers);
-        show_body(rt, s.get(..n).unwrap_or(&s))?;
+        let bytes = body_of(numbers);
+        show_body(rt, bytes.get(..n).unwrap_or(&bytes))?;
     }
     Ok(())
 }

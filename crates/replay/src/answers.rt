@@ -7,17 +7,16 @@ pub fn is_same(case: Case<'_>, stores: &mut Stores, out: &mut [u8]) -> bool {
     let Ok(part) = Part::try_from(case.part) else {
         return false;
     };
-    let (s, e) = (case.input, case.expected);
     match part {
-        Part::HeaderRead => heads::header_read(s, e),
-        Part::HeaderWritten => heads::header_written(s, e),
-        Part::RecordHeaderRead => heads::record_header_read(s, e),
-        Part::EntriesWritten => heads::entries_written(s, e),
-        Part::PartCounted => heads::part_counted(s, e),
-        Part::BodyRead => bodies::body_read(s, e, case.flags, stores),
-        Part::Ring => runs::ring(s, e, stores),
-        Part::BodyWritten => files::body_written(s, e, case.flags, stores, out),
-        Part::FilesWritten => files::files_written(s, e, stores, out),
-        Part::LesserAndGreater => heads::lesser_and_greater(s, e),
+        Part::HeaderRead => heads::header_read(case),
+        Part::HeaderWritten => heads::header_written(case),
+        Part::RecordHeaderRead => heads::record_header_read(case),
+        Part::EntriesWritten => heads::entries_written(case),
+        Part::PartCounted => heads::part_counted(case),
+        Part::BodyRead => bodies::body_read(case, stores),
+        Part::Ring => runs::ring(case, stores),
+        Part::BodyWritten => files::body_written(case, stores, out),
+        Part::FilesWritten => files::files_written(case, stores, out),
+        Part::LesserAndGreater => heads::lesser_and_greater(case),
     }
 }

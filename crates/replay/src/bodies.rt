@@ -1,102 +1,109 @@
 // Part 6: a body, in parts or as a multipoint, is read into stores with room behind it, and again into stores that it fills. All entries behind it
 // stay, and a refusal stores nothing.
+use crate::cases::Case;
 use crate::given::Given;
 use crate::seen::Seen;
-use crate::stores::{Lent, Sizes, Stores, fill, first, is_left};
+use crate::stores::{Filler, Lent, Sizes, Stores, first, is_left};
 use format::shapes::{Layout, Short, Tables};
-use multipart::{Body, BodyError};
+use multipart::{BBox, Body, BodyError};
 
 // What a body holds beside what goes into the stores.
-fn head(e: &[u8], b: Body) -> Seen<'_> {
-    Seen::new(e)
-        .byte(0)
-        .doubles(&[b.bbox.xmin, b.bbox.ymin, b.bbox.xmax, b.bbox.ymax])
-        .doubles(&[b.z_range.low, b.z_range.high])
-        .doubles(&[b.m_range.low, b.m_range.high])
-        .count(b.parts)
-        .count(b.points)
+fn head(seen: Seen<'_>, body: Body) -> Seen<'_> {
+    let BBox {
+        xmin,
+        ymin,
+        xmax,
+        ymax,
+    } = body.bbox;
+    seen.byte(0)
+        .doubles(&[xmin, ymin, xmax, ymax])
+        .doubles(&[body.z_range.low, body.z_range.high])
+        .doubles(&[body.m_range.low, body.m_range.high])
+        .count(body.parts)
+        .count(body.points)
 }
 
 // All entries from these places on are as they were filled.
-fn are_left(t: &Tables<'_>, sizes: Sizes) -> bool {
-    is_left(t.counts, sizes.counts)
-        && is_left(t.xs, sizes.xs)
-        && is_left(t.ys, sizes.ys)
-        && is_left(t.zs, sizes.zs)
-        && is_left(t.ms, sizes.ms)
+fn are_left(tables: &Tables<'_>, sizes: Sizes) -> bool {
+    is_left(tables.counts, sizes.counts)
+        && is_left(tables.xs, sizes.xs)
+        && is_left(tables.ys, sizes.ys)
+        && is_left(tables.zs, sizes.zs)
+        && is_left(tables.ms, sizes.ms)
 }
 
 // So many values of each store after the head, and the rest as it was.
-fn is_stored(e: &[u8], b: Body, sizes: Sizes, t: &Tables<'_>) -> bool {
-    head(e, b)
-        .words(first(t.counts, sizes.counts))
-        .doubles(first(t.xs, sizes.xs))
-        .doubles(first(t.ys, sizes.ys))
-        .doubles(first(t.zs, sizes.zs))
-        .doubles(first(t.ms, sizes.ms))
+fn is_stored(seen: Seen<'_>, body: Body, sizes: Sizes, tables: &Tables<'_>) -> bool {
+    head(seen, body)
+        .words(first(tables.counts, sizes.counts))
+        .doubles(first(tables.xs, sizes.xs))
+        .doubles(first(tables.ys, sizes.ys))
+        .doubles(first(tables.zs, sizes.zs))
+        .doubles(first(tables.ms, sizes.ms))
         .is_whole()
-        && are_left(t, sizes)
+        && are_left(tables, sizes)
 }
 
 // The refusal that is expected, and nothing stored.
-fn is_refused(e: &[u8], which: u8, place: usize, t: &Tables<'_>) -> bool {
-    Seen::new(e).is_refusal_at(which, place) && are_left(t, Sizes::default())
+fn is_refused(seen: Seen<'_>, which: u8, place: usize, tables: &Tables<'_>) -> bool {
+    seen.is_refusal_at(which, place) && are_left(tables, Sizes::default())
 }
 
 // An answer with the stores as they are after the call.
-fn is_answer(e: &[u8], answer: Result<Body, BodyError>, layout: Layout, t: &Tables<'_>) -> bool {
+fn is_answer(case: Case<'_>, answer: Result<Body, BodyError>, tables: &Tables<'_>) -> bool {
+    let seen = case.seen();
     match answer {
-        Ok(b) => is_stored(e, b, Sizes::of_body(layout, b.parts, b.points), t),
-        Err(BodyError::Short(Short { at, .. })) => is_refused(e, 1, at, t),
-        Err(BodyError::Size(at)) => is_refused(e, 3, at, t),
+        Ok(body) => {
+            let sizes = Sizes::of_body(case.layout(), body.parts, body.points);
+            is_stored(seen, body, sizes, tables)
+        }
+        Err(BodyError::Short(Short { at, .. })) => is_refused(seen, 1, at, tables),
+        Err(BodyError::Size(at)) => is_refused(seen, 3, at, tables),
         Err(BodyError::Room { .. }) => false,
     }
 }
 
 // The body is read into so many entries of each store.
-fn read_into(s: &[u8], e: &[u8], layout: Layout, sizes: Sizes, stores: &mut Stores) -> bool {
-    let Some(lent) = stores.lend(sizes) else {
+fn read_into(case: Case<'_>, sizes: Sizes, stores: &mut Stores) -> bool {
+    let Some(
+        Lent {
+            counts,
+            xs,
+            ys,
+            zs,
+            ms,
+        },
+    ) = stores.lend(sizes)
+    else {
         return false;
     };
-    let Lent {
-        counts,
-        xs,
-        ys,
-        zs,
-        ms,
-    } = lent;
-    fill(counts);
-    fill(xs);
-    fill(ys);
-    fill(zs);
-    fill(ms);
-    let answer = multipart::read_body(s, layout, counts, xs, ys, zs, ms);
-    let t = Tables {
+    counts.fill(u32::FILLER);
+    xs.fill(f64::FILLER);
+    ys.fill(f64::FILLER);
+    zs.fill(f64::FILLER);
+    ms.fill(f64::FILLER);
+    let answer = multipart::read_body(case.input, case.layout(), counts, xs, ys, zs, ms);
+    let tables = Tables {
         counts,
         xs,
         ys,
         zs,
         ms,
     };
-    is_answer(e, answer, layout, &t)
+    is_answer(case, answer, &tables)
 }
 
 // The expected answer says how many parts and points there are; it is shorter where the body is refused.
-pub fn body_read(s: &[u8], e: &[u8], flags: u8, stores: &mut Stores) -> bool {
-    let layout = Layout {
-        parts: flags / 4 == 0,
-        z: flags % 2 == 1,
-        m: flags / 2 % 2 == 1,
-    };
-    let p = Given::starting_at(e, 65).count();
-    let n = Given::starting_at(e, 69).count();
+pub fn body_read(case: Case<'_>, stores: &mut Stores) -> bool {
+    let parts = Given::starting_at(case.expected, 65).count();
+    let points = Given::starting_at(case.expected, 69).count();
     let roomy = Sizes {
-        counts: p + 2,
-        xs: n + 2,
-        ys: n + 2,
-        zs: n + 2,
-        ms: n + 2,
+        counts: parts + 2,
+        xs: points + 2,
+        ys: points + 2,
+        zs: points + 2,
+        ms: points + 2,
     };
-    read_into(s, e, layout, roomy, stores)
-        && read_into(s, e, layout, Sizes::of_body(layout, p, n), stores)
+    let filled = Sizes::of_body(case.layout(), parts, points);
+    read_into(case, roomy, stores) && read_into(case, filled, stores)
 }

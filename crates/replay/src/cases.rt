@@ -2,6 +2,10 @@
 ghost use Rattle.std.specs.Prelude.{length};
 ghost use Rattle.std.specs.Iterator.{at_most};
 
+use crate::given::Given;
+use crate::seen::Seen;
+use format::shapes::Layout;
+
 // Which call of the library a case is of.
 #[derive(Clone, Copy)]
 pub enum Part {
@@ -65,6 +69,23 @@ impl<'a> Case<'a> {
             input,
             expected,
         })
+    }
+
+    pub fn given(self) -> Given<'a> {
+        Given::new(self.input)
+    }
+
+    pub fn seen(self) -> Seen<'a> {
+        Seen::new(self.expected)
+    }
+
+    // The flags are 1 for z, 2 for m, 4 for a multipoint.
+    pub fn layout(self) -> Layout {
+        Layout {
+            parts: self.flags < 4,
+            z: self.flags & 1 != 0,
+            m: self.flags & 2 != 0,
+        }
     }
 }
 

@@ -1,15 +1,14 @@
 // Parts 1 to 5 and 10: file headers, record headers, index entries, part arithmetic, and the lesser and the greater of two doubles.
-use crate::given::Given;
-use crate::seen::Seen;
+use crate::cases::Case;
 use format::kinds::UnknownKind;
 use format::shapes::Short;
 use format::units::Words;
-use header::entries::{RecordHeader, ShapeIndex};
+use header::entries::{self, RecordHeader, ShapeIndex};
 use header::{Header, HeaderError};
 
-pub fn header_read(s: &[u8], e: &[u8]) -> bool {
-    let seen = Seen::new(e);
-    match header::read_header(s) {
+pub fn header_read(case: Case<'_>) -> bool {
+    let seen = case.seen();
+    match header::read_header(case.input) {
         Ok(h) => seen
             .byte(0)
             .int(h.file_length.0)
@@ -24,9 +23,9 @@ pub fn header_read(s: &[u8], e: &[u8]) -> bool {
     }
 }
 
-pub fn header_written(s: &[u8], e: &[u8]) -> bool {
-    let mut given = Given::new(s);
-    let seen = Seen::new(e);
+pub fn header_written(case: Case<'_>) -> bool {
+    let mut given = case.given();
+    let seen = case.seen();
     let written = header::header_bytes(Header {
         file_length: Words(given.int()),
         version: given.int(),
@@ -39,9 +38,9 @@ pub fn header_written(s: &[u8], e: &[u8]) -> bool {
     }
 }
 
-pub fn record_header_read(s: &[u8], e: &[u8]) -> bool {
-    let seen = Seen::new(e);
-    match header::entries::read_record_header(s) {
+pub fn record_header_read(case: Case<'_>) -> bool {
+    let seen = case.seen();
+    match entries::read_record_header(case.input) {
         Ok(h) => seen
             .byte(0)
             .int(h.record_number)
@@ -52,41 +51,43 @@ pub fn record_header_read(s: &[u8], e: &[u8]) -> bool {
 }
 
 // The bytes of both; and the library reads the crate's entry as the numbers that it was written from.
-pub fn entries_written(s: &[u8], e: &[u8]) -> bool {
-    let mut given = Given::new(s);
+pub fn entries_written(case: Case<'_>) -> bool {
+    let mut given = case.given();
     let (a, b) = (given.int(), given.int());
-    let record = header::entries::record_header_bytes(RecordHeader {
+    let record = RecordHeader {
         record_number: a,
         content_length: Words(b),
-    });
-    let entry = header::entries::index_entry_bytes(ShapeIndex {
+    };
+    let entry = ShapeIndex {
         offset: Words(a),
         content_length: Words(b),
-    });
-    Seen::new(e).bytes(&record).bytes(&entry).is_whole() && entry_read(e, a, b)
-}
-
-fn entry_read(e: &[u8], a: i32, b: i32) -> bool {
-    let Some((_, entry)) = e.split_first_chunk::<8>() else {
-        return false;
     };
-    header::entries::read_index_entry(entry).is_ok_and(|found| found.offset.0 == a
-        && found.content_length.0 == b)
+    case.seen()
+        .bytes(&entries::record_header_bytes(record))
+        .bytes(&entries::index_entry_bytes(entry))
+        .is_whole()
+        && is_read_as(case.expected, entry)
 }
 
-pub fn part_counted(s: &[u8], e: &[u8]) -> bool {
-    let mut given = Given::new(s);
-    let seen = Seen::new(e);
+fn is_read_as(expected: &[u8], entry: ShapeIndex) -> bool {
+    expected
+        .get(8..)
+        .is_some_and(|bytes| entries::read_index_entry(bytes) == Ok(entry))
+}
+
+pub fn part_counted(case: Case<'_>) -> bool {
+    let mut given = case.given();
+    let seen = case.seen();
     match multipart::part_count(given.int(), given.int()) {
         Some(n) => seen.byte(0).word(n).is_whole(),
         None => seen.byte(3).is_whole(),
     }
 }
 
-pub fn lesser_and_greater(s: &[u8], e: &[u8]) -> bool {
-    let mut given = Given::new(s);
+pub fn lesser_and_greater(case: Case<'_>) -> bool {
+    let mut given = case.given();
     let (a, b) = (given.double(), given.double());
-    Seen::new(e)
+    case.seen()
         .double(boxes::f64_min(a, b))
         .double(boxes::f64_max(a, b))
         .is_whole()

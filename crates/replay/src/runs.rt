@@ -1,9 +1,10 @@
 // Part 7: a run of points is judged for closed and turning and then closed, in stores with room behind it and in ones that it fills.
 ghost use Rattle.std.specs.Prelude.{◌*◌, ◌≤◌, length};
 
+use crate::cases::Case;
 use crate::given::Given;
 use crate::seen::Seen;
-use crate::stores::{self, Stores, fill, first, is_left};
+use crate::stores::{self, Filler, Stores, first, is_left};
 use rings::{RingType, TooFew};
 
 fn closed(xs: &[f64], ys: &[f64], n: usize) -> u8 {
@@ -32,37 +33,37 @@ fn is_stored(seen: Seen<'_>, k: usize, xs: &[f64], ys: &[f64]) -> bool {
 }
 
 // The n points of the input, all x before all y, at the front of both stores.
-fn lay(s: &[u8], n: usize, xs: &mut [f64], ys: &mut [f64])
-    requires { (16 * n ≤ length s.now) × (n ≤ length xs.old) × (n ≤ length ys.old) }
+fn lay(input: &[u8], n: usize, xs: &mut [f64], ys: &mut [f64])
+    requires { (16 * n ≤ length input.now) × (n ≤ length xs.old) × (n ≤ length ys.old) }
 {
-    fill(xs);
-    fill(ys);
-    fields::read_doubles(s, 0, &mut xs[..n]);
-    fields::read_doubles(s, 8 * n, &mut ys[..n]);
+    xs.fill(f64::FILLER);
+    ys.fill(f64::FILLER);
+    fields::read_doubles(input, 0, &mut xs[..n]);
+    fields::read_doubles(input, 8 * n, &mut ys[..n]);
 }
 
-fn run(s: &[u8], e: &[u8], xs: &mut [f64], ys: &mut [f64]) -> bool {
-    let n = s.len() / 16;
+fn run(case: Case<'_>, xs: &mut [f64], ys: &mut [f64]) -> bool {
+    let n = case.input.len() / 16;
     if xs.len() < n || ys.len() < n {
         return false;
     }
-    lay(s, n, xs, ys);
-    let seen = Seen::new(e).byte(closed(xs, ys, n)).byte(inner(xs, ys, n));
+    lay(case.input, n, xs, ys);
+    let seen = case.seen().byte(closed(xs, ys, n)).byte(inner(xs, ys, n));
     rings::close_points_if_not_already(xs, ys, n).is_ok_and(|k| is_stored(seen, k, xs, ys))
 }
 
-fn run_into(s: &[u8], e: &[u8], room: usize, stores: &mut Stores) -> bool {
+fn run_into(case: Case<'_>, room: usize, stores: &mut Stores) -> bool {
     let Some(xs) = stores::first_mut(&mut stores.xs, room) else {
         return false;
     };
     let Some(ys) = stores::first_mut(&mut stores.ys, room) else {
         return false;
     };
-    run(s, e, xs, ys)
+    run(case, xs, ys)
 }
 
 // The input is whole points, an x and a y for each; the expected answer says how many the closed run has.
-pub fn ring(s: &[u8], e: &[u8], stores: &mut Stores) -> bool {
-    let k = Given::starting_at(e, 2).count();
-    s.len() % 16 == 0 && run_into(s, e, k + 2, stores) && run_into(s, e, k, stores)
+pub fn ring(case: Case<'_>, stores: &mut Stores) -> bool {
+    let k = Given::starting_at(case.expected, 2).count();
+    case.input.len() % 16 == 0 && run_into(case, k + 2, stores) && run_into(case, k, stores)
 }

@@ -97,12 +97,6 @@ impl Filler for u8 {
     const FILLER: u8 = 0xaa;
 }
 
-pub fn fill<T: Filler>(store: &mut [T]) {
-    for entry in store {
-        *entry = T::FILLER;
-    }
-}
-
 // All entries from a place on are as they were filled.
 pub fn is_left<T: Filler>(store: &[T], from: usize) -> bool {
     store.iter().skip(from).all(|entry| *entry == T::FILLER)
