@@ -6,6 +6,7 @@ use Prim.Native.Nat.{ℕ, zero, suc, ◌+◌, ◌-◌, ◌^◌, ◌≤◌, ◌<�
 use native.Mathlib.Omega.{arith}
 use lib.Dec.{ltb}
 use lib.IntN.{ℤ, pos, negsuc, nat_abs, ◌-ℤ◌}
+use lib.ListN.{length}
 use mir.Syntax.{w32}
 use mir.Val.{SFits}
 use borrow.Author.Tests.{lt-ltb, ltb-true}
@@ -104,3 +105,19 @@ pub no_more : (left start : ℕ) (n : ℤ) (s : List ℕ) → left ≤ 0 → dif
 unfolding differences starts_at
 no_more zero start n s h = refl
 no_more (suc left) start n s h = absurd (omega arith)
+
+-- ---- as many differences as parts
+
+length-differences : (xs : List ℤ) (n : ℤ) → length (differences xs n) ≡ length xs
+unfolding differences
+length-differences [] n = refl
+length-differences (a ∷ []) n = refl
+length-differences (a ∷ b ∷ xs) n = ap suc (length-differences (b ∷ xs) n)
+
+length-starts_at : (k at : ℕ) (s : List ℕ) → length (starts_at k at s) ≡ k
+unfolding starts_at
+length-starts_at zero at s = refl
+length-starts_at (suc k) at s = ap suc (length-starts_at k (at + 4) s)
+
+pub length-differences_from : (left start : ℕ) (n : ℤ) (s : List ℕ) → length (differences_from left start n s) ≡ left
+length-differences_from left start n s = length-differences _ n ∙ length-starts_at left start s

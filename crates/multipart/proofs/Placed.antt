@@ -1,8 +1,8 @@
 -- A body's refusals that name a place lie within its bytes: a test that names one is reached only where the bytes go so far.
-use mathlib.Core.Path.{◌≡◌, refl, ap, ◌∙◌}
+use mathlib.Core.Path.{◌≡◌, refl}
 use mathlib.Core.Bool.{Bool, true, false}
 use mathlib.Core.List.{List, [], ◌∷◌, ◌++◌, map}
-use Prim.Native.Nat.{ℕ, zero, suc, ◌+◌, ◌*◌, ◌≤◌, ◌<◌, zero-le}
+use Prim.Native.Nat.{ℕ, ◌+◌, ◌*◌, ◌≤◌, ◌<◌, zero-le}
 use native.Mathlib.Omega.{arith}
 use lib.Dec.{lit<}
 use lib.IntN.{ℤ}
@@ -19,9 +19,10 @@ use Rattle.multipart.specs.declared.Body.{Body}
 use Rattle.multipart.specs.declared.Counts.{Counts}
 use Rattle.multipart.specs.Answers.{counts_of}
 use Rattle.multipart.specs.Body.{parts_in, number_at, differences_in, counts_in, points_in, pairs_at, z_at, m_at, body_width, body_in, count_tests, part_tests, measure_tests, pair_tests, rest_tests, has_room, room_tests, body_of}
-use Rattle.multipart.specs.Parts.{is_count, count_of, differences, starts_at}
+use Rattle.multipart.specs.Parts.{is_count, count_of}
 use Rattle.multipart.specs.Walks.{end_after}
 use Rattle.multipart.proofs.CountLaws.{number_from}
+use Rattle.multipart.proofs.PartLaws.{length-differences_from}
 
 -- ---- how wide the fields are
 
@@ -90,19 +91,6 @@ pub counts_placed : (parts : Bool) (s : List ℕ) → Placed (body_width parts s
 unfolding counts_of
 counts_placed parts s = counts_before parts s _ (λ h. tt)
 
--- ---- as many differences as parts
-
-differences-length : (xs : List ℤ) (n : ℤ) → length (differences xs n) ≡ length xs
-unfolding differences
-differences-length [] n = refl
-differences-length (a ∷ []) n = refl
-differences-length (a ∷ b ∷ xs) n = ap suc (differences-length (b ∷ xs) n)
-
-starts_length : (k at : ℕ) (s : List ℕ) → length (starts_at k at s) ≡ k
-unfolding starts_at
-starts_length zero at s = refl
-starts_length (suc k) at s = ap suc (starts_length k (at + 4) s)
-
 -- ---- the body
 
 pairs_placed : (parts : Bool) (s : List ℕ) (a : Said Body) → number_at parts + 4 ≤ length s → (z_at parts s ≤ length s → Placed (body_width parts s) s a) → Placed (body_width parts s) s (first (pair_tests parts s) a)
@@ -110,7 +98,7 @@ unfolding pairs_at z_at points_in counts_in
 pairs_placed true s a h k =
     let W : ℕ → ℕ = body_width true s in
     let ds : List ℤ = differences_in true s in
-    let d : length ds ≡ parts_in true s = differences-length _ _ ∙ starts_length _ _ _ in
+    let d : length ds ≡ parts_in true s = length-differences_from _ _ _ _ in
     rw (first-append (fields_from 4 (parts_in true s) 40 s short) (part_tests 40 (pairs_at true s) ds s) a)
     (fields_placed W s 4 (parts_in true s) 40 (lit< tt) h (λ p i j. number_wide true s p (omega arith) j) _
     (λ p. parts_placed true s ds 40 (pairs_at true s) (rw d p) (omega arith) p a k))

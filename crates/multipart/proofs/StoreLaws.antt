@@ -2,18 +2,16 @@
 use mathlib.Core.Path.{◌≡◌, refl, sym, ◌∙◌}
 use mathlib.Core.List.{List, ◌++◌, map}
 use Prim.Native.Nat.{ℕ, ◌+◌, ◌*◌, ◌-◌, ◌^◌, ◌≤◌, ◌<◌}
-use native.Mathlib.Nat.{zero-add, sub-zero}
+use native.Mathlib.Nat.{zero-add}
 use native.Mathlib.Numerals.{add-one}
 use native.Mathlib.Omega.{arith}
-use lib.Ieee.{Float, binary64, of_bits, of_int}
+use lib.Ieee.{binary64, of_bits, of_int}
 use lib.IntN.{ℤ, negsuc}
-use lib.ListN.{length, take, drop, set}
-use lib.Seq.{sets, sets-eq, length-take-le}
-use Rattle.format.specs.Numbers.{le_f64, doubles_at}
-use Rattle.format.proofs.NumberLaws.{length-doubles_at, doubles_on, doubles_end}
-use Rattle.multipart.specs.Body.{no_data, raised}
+use lib.ListN.{length, drop, set, length-map}
+use lib.Seq.{sets, sets-eq}
+use Rattle.multipart.specs.Body.{no_data}
 use Rattle.multipart.specs.Parts.{count_of}
-use Rattle.multipart.proofs.PartLaws.{differences_from, difference_at, one_more, no_more}
+use Rattle.multipart.proofs.PartLaws.{differences_from, difference_at, one_more, no_more, length-differences_from}
 
 -- ---- the counts of the parts from part i on, into a store from place i on
 
@@ -27,24 +25,17 @@ module _ (counts : List ℕ) (p i : ℕ) (n : ℤ) (s : List ℕ) where
   pub counts_end : p ≤ i → sets counts i (map count_of (differences_from (p - i) (40 + 4 * i) n s)) ≡ counts
   counts_end h = rw (no_more (p - i) (40 + 4 * i) n s (omega arith))
 
--- ---- the m values from place i on
+pub length-counts : (p at : ℕ) (n : ℤ) (s : List ℕ) → length (map count_of (differences_from p at n s)) ≡ p
+length-counts p at n s = rw (length-map, length-differences_from p at n s)
+
+-- ---- the least m value
 
 -- -10e38 is -10^39
 pub no-data : no_data ≡ of_int binary64 (negsuc (10 ^ 39 - 1))
 unfolding no_data of_bits of_int
 no-data = refl
 
-pub raised_turn : (ms : List Float) (n at i : ℕ) (s : List ℕ) → i < n → sets (set ms i (raised (le_f64 (at + 8 * i) s))) (i + 1) (map raised (doubles_at 8 (n - (i + 1)) (at + 8 * (i + 1)) s)) ≡ sets ms i (map raised (doubles_at 8 (n - i) (at + 8 * i) s))
-raised_turn ms n at i s h = rw (doubles_on 8 n at i s h, add-one)
+-- ---- the first k entries of a store were lent, and come back as other values
 
-pub raised_end : (ms : List Float) (n at i : ℕ) (s : List ℕ) → n ≤ i → sets ms i (map raised (doubles_at 8 (n - i) (at + 8 * i) s)) ≡ ms
-raised_end ms n at i s h = rw (doubles_end 8 n (at + 8 * i) i s h)
-
--- ---- the first k entries of a store were lent, and are back
-
-pub front-back : (out front : List Float) (k at : ℕ) (s : List ℕ) → k ≤ length out → front ≡ doubles_at 8 (length (take (k - 0) out)) at s → front ++ drop (k - 0) out ≡ sets out 0 (doubles_at 8 k at s)
-front-back out front k at s h e =
-    let d = length-doubles_at 8 k at s in
-    let f : front ≡ doubles_at 8 k at s = e ∙ rw (sub-zero, length-take-le k out h) in
-    let g : 0 + length (doubles_at 8 k at s) ≤ length out = rw d (omega arith) in
-    rw (f, sub-zero) (sym (sets-eq (doubles_at 8 k at s) out 0 g ∙ rw (zero-add, d)))
+pub front-back : {A : Type 0} (vs out : List A) (k : ℕ) → length vs ≡ k → k ≤ length out → vs ++ drop k out ≡ sets out 0 vs
+front-back vs out k e h = sym (sets-eq vs out 0 (omega (arith, e, h)) ∙ rw (zero-add, e))

@@ -24,21 +24,14 @@ fn store_counts(s: &[u8], parts: bool, said: Counts, counts: &mut [u32])
 {
     if parts {
         let p = said.parts as usize;
-        for i in 0..p {
-            counts[i] = count_at(s, 40 + 4 * i, p - i - 1, said.points as i32);
+        for (i, count) in counts[..p].iter_mut().enumerate() {
+            *count = count_at(s, 40 + 4 * i, p - i - 1, said.points as i32);
         }
     }
 }
 
-// k doubles from a place on.
-fn store_doubles(s: &[u8], at: usize, k: usize, out: &mut [f64])
-    requires { (at + 8 * k ≤ length s.now) × (k ≤ length out.old) }
-    ensures { out.new ≡ sets out.old 0 (doubles_at 8 k at s.now) }
-{
-    fields::read_doubles(s, at, &mut out[0..k]);
-}
-
 // The x and the y of so many points, whose pairs stand from a place on: from the first pair on, whatever the starts are.
+// By index: after a zip of the two stores' `iter_mut` a proof knows nothing of what they hold.
 fn store_pairs(s: &[u8], at: usize, points: usize, xs: &mut [f64], ys: &mut [f64])
     requires { (at + 16 * points ≤ length s.now) × (points ≤ length xs.old) × (points ≤ length ys.old) }
     ensures { (xs.new ≡ sets xs.old 0 (doubles_at 16 points at s.now)) × (ys.new ≡ sets ys.old 0 (doubles_at 16 points (at + 8) s.now)) }
@@ -57,7 +50,7 @@ fn store_z(s: &[u8], z: bool, n: usize, at: usize, zs: &mut [f64])
     ensures { zs.new ≡ sets zs.old 0 (cond z (doubles_at 8 n (at + 16) s.now) []) }
 {
     if z {
-        store_doubles(s, at + 16, n, zs);
+        fields::read_doubles(s, at + 16, &mut zs[..n]);
     }
 }
 
@@ -74,8 +67,10 @@ fn store_m(s: &[u8], m: bool, n: usize, at: usize, ms: &mut [f64])
     ensures { ms.new ≡ sets ms.old 0 (cond m (map raised (doubles_at 8 n (at + 16) s.now)) []) }
 {
     if m {
-        for i in 0..n {
-            ms[i] = raise(fields::le_f64_at(s, at + 16 + 8 * i));
+        let values = &mut ms[..n];
+        fields::read_doubles(s, at + 16, values);
+        for value in values {
+            *value = raise(*value);
         }
     }
 }

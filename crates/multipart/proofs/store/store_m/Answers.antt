@@ -1,17 +1,23 @@
--- `multipart::store::store_m`: at each turn the m values that are left complete the store.
-use Rattle.std.proofs.Common.{sym, ap, ◌∙◌}
-use lib.ListN.{length-set}
+-- `multipart::store::store_m`: before the first value, and all of them raised.
+use Rattle.std.proofs.Common.{◌≡◌, ◌+◌, ◌∙◌, map, arith}
+use lib.ListN.{drop_of_length-le, length-map}
+use lib.Seq.{length-take-le}
+use Rattle.format.specs.Numbers.{doubles_at}
+use Rattle.format.proofs.LayoutLaws.{sets_all}
+use Rattle.format.proofs.NumberLaws.{length-doubles_at}
 use Rattle.multipart.specs.Body.{raised}
-use Rattle.multipart.proofs.StoreLaws.{raised_turn, raised_end}
+use Rattle.multipart.proofs.StoreLaws.{front-back}
 use Rattle.multipart.proofs.store.store_m.Goals as goal
 
-pub loop-i-preserved : goal.loop-i-preserved
-loop-i-preserved c =
-    let l = c.loop-i in
-    record {
-      same_length = simp length-set l.invariant.same_length;
-      left = rw (c.raise.ensures ∙ ap raised c.le_f64_at.ensures) (raised_turn _ _ _ _ _ c.loop-i-test.true ∙ l.invariant.left);
-    }
+pub loop-value-init : goal.loop-value-init
+loop-value-init c =
+    let room = rw c.if-m.true at c.requires.1 in
+    rw (c.read_doubles.ensures, length-take-le _ c.args.ms.now room) (sets_all _ _ (length-map _ raised))
 
-pub returns-after-loop-i : goal.returns-after-loop-i
-returns-after-loop-i c = rw c.if-m.true (sym (raised_end _ _ _ _ _ c.loop-i-test.false) ∙ c.loop-i.invariant.left)
+pub returns-after-loop-value : goal.returns-after-loop-value
+returns-after-loop-value c =
+    let a = c.args in
+    let l = c.loop-value in
+    let room = rw c.if-m.true at c.requires.1 in
+    let all : l.value-items ≡ map raised (doubles_at 8 a.n (a.at + 16) a.s.now) = rw (drop_of_length-le l.value-items {i = l.value-index} (omega arith)) at l.invariant in
+    rw (c.if-m.true, all) (front-back _ a.ms.now _ (length-map _ raised ∙ length-doubles_at 8 _ _ _) room)

@@ -1,13 +1,10 @@
--- `multipart::store::store_m`: the m values that are left to store complete the store.
-use Rattle.std.proofs.Common.{◌≡◌, ◌+◌, ◌*◌, ◌-◌, length, map}
+-- `multipart::store::store_m`: the values that are left to raise complete the store's front.
+use Rattle.std.proofs.Common.{◌≡◌, ◌+◌, map, drop}
 use lib.Seq.{sets}
 use Rattle.format.specs.Numbers.{doubles_at}
 use Rattle.multipart.specs.Body.{raised}
 use Rattle.multipart.proofs.store.store_m.Given as goal
 
-abbrev pub invariant-loop-i : goal.invariant-loop-i
-invariant-loop-i l =
-    record {
-      same_length : length l.ms ≡ length l.initial.ms;
-      left : sets l.ms l.i (map raised (doubles_at 8 (l.n - l.i) (l.at + 16 + 8 * l.i) l.s)) ≡ sets l.initial.ms 0 (map raised (doubles_at 8 l.n (l.at + 16) l.s));
-    }
+abbrev pub invariant-loop-value : goal.invariant-loop-value
+invariant-loop-value l =
+    sets l.value-items l.value-index (map raised (drop l.value-index l.value-items)) ≡ map raised (doubles_at 8 l.n (l.at + 16) l.s)
