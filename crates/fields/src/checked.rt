@@ -1,7 +1,7 @@
 // Fields that the bytes may end inside: read where they are whole, and else named by their place and by how many of their bytes are there.
-ghost use Rattle.std.specs.Prelude.{◌<◌};
+ghost use Rattle.std.specs.Prelude.{◌<◌, ◌≤◌, length};
 ghost use Rattle.format.specs.Numbers.{be_i32, le_i32};
-ghost use Rattle.fields.specs.Checked.{Reads};
+ghost use Rattle.fields.specs.Checked.{Reads, FieldsEnd};
 
 use format::shapes::Short;
 
@@ -15,6 +15,21 @@ pub fn whole(s: &[u8], at: usize, width: usize) -> Result<(), Short>
         return Err(Short { at, present });
     }
     Ok(())
+}
+
+// Where n fields of a width end, from a place on; or the one of them that the bytes end inside.
+pub fn fields_end(s: &[u8], at: usize, width: usize, n: usize) -> Result<usize, Short>
+    requires { (at ≤ length s.now) × (0 < width) }
+    ensures { FieldsEnd width n at (length s.now) result }
+{
+    let rest = s.len() - at;
+    if rest / width < n {
+        return Err(Short {
+            at: at + rest / width * width,
+            present: rest % width,
+        });
+    }
+    Ok(at + width * n)
 }
 
 pub fn be_i32(s: &[u8], at: usize) -> Result<i32, Short>

@@ -4,6 +4,7 @@ ghost use Rattle.std.proofs.lemmas.List.Edits.{sets};
 ghost use Rattle.format.specs.Numbers.{f64s_le};
 ghost use Rattle.header.specs.Box.{box_at, box_list, ReadsBox};
 
+use fields::checked;
 use format::shapes::Short;
 
 #[repr(C)]
@@ -44,13 +45,7 @@ pub(crate) fn read_box(s: &[u8], at: usize) -> Result<BBoxZ, Short>
     requires { at ≤ length s.now }
     ensures { ReadsBox at s.now result }
 {
-    let rest = s.len() - at;
-    if rest < 64 {
-        return Err(Short {
-            at: at + rest / 8 * 8,
-            present: rest % 8,
-        });
-    }
+    checked::fields_end(s, at, 8, 8)?;
     Ok(box_at(s, at))
 }
 

@@ -25,7 +25,8 @@ use Rattle.multipart.specs.declared.CountsError.{CountsError}
 use Rattle.multipart.specs.declared.CountsError.TheVariants as CountsErrorIs
 use Rattle.multipart.specs.Answers.{refusal, counts_of}
 use Rattle.multipart.specs.Body.{parts_in, number_at, count_tests}
-use Rattle.multipart.specs.Walks.{Refuses, FieldsEnd, Counted}
+use Rattle.fields.specs.Checked.{FieldsEnd}
+use Rattle.multipart.specs.Walks.{Refuses, Counted}
 use Rattle.multipart.proofs.TestLaws.{carry, first_carry, fields_stop}
 
 module _ (parts : Bool) (s : List ℕ) where

@@ -17,7 +17,8 @@ use Rattle.multipart.specs.declared.Body.{Body}
 use Rattle.multipart.specs.declared.CountsError.{CountsError}
 use Rattle.multipart.specs.declared.CountsError.TheVariants as CountsErrorIs
 use Rattle.multipart.specs.Body.{parts_in, number_at, differences_in, counts_in, points_in, pairs_at, z_at, m_at, part_tests, measure_tests, pair_tests, rest_tests}
-use Rattle.multipart.specs.Walks.{Passes, Refuses, FieldsEnd, PartsWalk, end_after, MeasureWalk, PairsWalk}
+use Rattle.fields.specs.Checked.{FieldsEnd}
+use Rattle.multipart.specs.Walks.{Passes, Refuses, PartsWalk, end_after, MeasureWalk, PairsWalk}
 use Rattle.multipart.proofs.TestLaws.{fields_pass, fields_stop}
 
 -- ---- one list of tests after another

@@ -10,7 +10,7 @@ use Rattle.format.specs.declared.shapes.Short.{Short}
 use Rattle.format.specs.Order.{first, fields_from}
 use Rattle.format.specs.Said.{Said, gives, refuses, short}
 use Rattle.format.proofs.OrderLaws.{fields_whole, fields_cut}
-use Rattle.multipart.specs.Walks.{FieldsEnd}
+use Rattle.fields.specs.Checked.{FieldsEnd}
 
 module _ {A B : Type 0} (f : A → Said B) where
   abbrev pub carry : Said A → Said B

@@ -20,7 +20,8 @@ use Rattle.multipart.specs.declared.CountsError.TheVariants as CountsErrorIs
 use Rattle.multipart.specs.Answers.{part_of}
 use Rattle.multipart.specs.Body.{part_tests}
 use Rattle.multipart.specs.Parts.{is_count, count_of, starts_at}
-use Rattle.multipart.specs.Walks.{Passes, Refuses, FieldsEnd, end_of, differences_of, PartsWalk, MeasureWalk}
+use Rattle.fields.specs.Checked.{FieldsEnd}
+use Rattle.multipart.specs.Walks.{Passes, Refuses, end_of, differences_of, PartsWalk, MeasureWalk}
 use Rattle.multipart.proofs.TestLaws.{fields_pass, fields_stop}
 use Rattle.multipart.proofs.PartLaws.{is-count, no_count, differences_from, difference_at, one_more, no_more}
 

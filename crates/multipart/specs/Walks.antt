@@ -32,11 +32,6 @@ Finds ts P (Err e) = Refuses ts (refusal e)
 
 -- ---- fields
 
--- where n fields of a width end, from a place on, if so many bytes are there; or which of them is cut, and how many of its bytes are there
-abbrev pub FieldsEnd : ℕ → ℕ → ℕ → ℕ → Result ℕ Short → Type 0
-FieldsEnd width n at size (Ok end) = (end ≡ at + width * n) × (end ≤ size)
-FieldsEnd width n at size (Err e) = (size < at + width * n) × (e ≡ record { at = at + (size - at) / width * width; present = (size - at) % width })
-
 -- a number that is not negative; else its place
 abbrev pub NotNegative : ℤ → ℕ → Result ℕ CountsError → Type 0
 NotNegative n at (Ok count) = n ≡ pos count

@@ -4,25 +4,11 @@ ghost use Rattle.format.specs.Numbers.{le_i32};
 ghost use Rattle.multipart.specs.Answers.{said_part, part_of};
 ghost use Rattle.multipart.specs.Body.{number_at};
 ghost use Rattle.multipart.specs.Parts.{starts_at};
-ghost use Rattle.multipart.specs.Walks.{FieldsEnd, NotNegative, end_of, end_after, Counted, PartsWalk, MeasureWalk, PairsWalk, RestWalk};
+ghost use Rattle.multipart.specs.Walks.{NotNegative, end_of, end_after, Counted, PartsWalk, MeasureWalk, PairsWalk, RestWalk};
 
 use crate::{Counts, CountsError, part_count};
-use format::shapes::{Layout, Short};
-
-// Where n fields of a width end, from a place on; or the one of them that the bytes end inside.
-pub(crate) fn fields_end(s: &[u8], at: usize, width: usize, n: usize) -> Result<usize, Short>
-    requires { (at ≤ length s.now) × (0 < width) }
-    ensures { FieldsEnd width n at (length s.now) result }
-{
-    let rest = s.len() - at;
-    if rest / width < n {
-        return Err(Short {
-            at: at + rest / width * width,
-            present: rest % width,
-        });
-    }
-    Ok(at + width * n)
-}
+use fields::checked::fields_end;
+use format::shapes::Layout;
 
 // A count, which stands at a place.
 pub(crate) fn not_negative(n: i32, at: usize) -> Result<u32, CountsError>

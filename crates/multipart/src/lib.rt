@@ -95,7 +95,7 @@ pub fn read_counts(s: &[u8], parts: bool) -> Result<Counts, CountsError>
     ensures { said_counts result ≡ counts_of parts s.now }
 {
     // the box
-    judge::fields_end(s, 0, 8, 4)?;
+    checked::fields_end(s, 0, 8, 4)?;
     // the number of parts, or else of points
     let first = checked::le_i32(s, 32)?;
     if !parts {

@@ -8,7 +8,6 @@ ghost use Rattle.record.specs.Steps.{Begins, double_if, said_point};
 use crate::content::Content;
 use crate::{Point, RecordError, sizes};
 use format::kinds::Kind;
-use format::shapes::Short;
 use multipart::Counts;
 
 const ONE_POINT: Counts = Counts {
@@ -16,11 +15,11 @@ const ONE_POINT: Counts = Counts {
     points: 1,
 };
 
-// Where the last double ends.
-fn point_end(k: Kind) -> usize
-    ensures { result ≡ 4 + 8 * doubles_of k }
+// How many doubles a point has: X, Y, and Z and M where its kind has them.
+fn doubles_of(k: Kind) -> usize
+    ensures { result ≡ doubles_of k }
 {
-    4 + 8 * (2 + usize::from(k.z) + usize::from(k.m))
+    2 + usize::from(k.z) + usize::from(k.m)
 }
 
 // The place of M, behind Z if that is there.
@@ -59,12 +58,6 @@ pub(crate) fn read_point(s: &[u8], content: Content) -> Result<Point, RecordErro
     if !sizes::has_words(content.size, content.lengths.with, ONE_POINT) {
         return Err(RecordError::Size(0));
     }
-    if s.len() < point_end(content.kind) {
-        let rest = s.len() - 4;
-        return Err(RecordError::Short(Short {
-            at: 4 + rest / 8 * 8,
-            present: rest % 8,
-        }));
-    }
+    fields::checked::fields_end(s, 4, 8, doubles_of(content.kind))?;
     Ok(point_at(s, content.kind))
 }

@@ -1,4 +1,6 @@
 -- `record::points::read_point`: the size, then the doubles, of which the first one cut decides.
+use native.Mathlib.Omega.{arith}
+use Rattle.std.proofs.lemmas.Result.{err_from_is_err_and}
 use Rattle.record.proofs.PointLaws.{other_size, point_cut, point-whole}
 use Rattle.record.proofs.points.read_point.Goals as goal
 
@@ -7,14 +9,17 @@ returns-then-not-has_words c =
     let a = c.args.content in
     other_size a.kind a.lengths a.size _ a.lengths_are c.requires.of_points c.if-not-has_words.ensures
 
-pub returns-then-s-point_end : goal.returns-then-s-point_end
-returns-then-s-point_end c =
+pub returns-in_err-fields_end : goal.returns-in_err-fields_end
+returns-in_err-fields_end c =
     let a = c.args.content in
-    point_cut a.kind a.lengths a.size _ a.lengths_are c.requires.of_points c.if-not-has_words.ensures c.requires.begins.long
-    (rw c.point_end.ensures at c.if-s-point_end.true)
+    let e = err_from_is_err_and c.from_residual.result c.from_residual.ensures.1 in
+    let cut = c.in_err-fields_end.ensures in
+    rw (e.1, e.2, cut.1)
+    (point_cut a.kind a.lengths a.size _ a.lengths_are c.requires.of_points c.if-not-has_words.ensures c.requires.begins.long
+    (rw c.doubles_of.ensures at cut.0))
 
 pub returns : goal.returns
 returns c =
     let a = c.args.content in
     point-whole a.kind a.lengths a.size _ a.lengths_are c.requires.of_points c.if-not-has_words.ensures
-    (rw c.point_end.ensures at c.if-s-point_end.false) _ _ c.requires.begins.code_is c.point_at.ensures
+    (omega (arith, c.in_ok-fields_end.ensures.0, c.in_ok-fields_end.ensures.1, c.doubles_of.ensures)) _ _ c.requires.begins.code_is c.point_at.ensures
