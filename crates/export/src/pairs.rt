@@ -6,16 +6,7 @@ ghost use Rattle.export.specs.Refusals.{refusal_of};
 
 use crate::refusals;
 use crate::refusals::Refusal;
-use pair::Fault;
-
-// The checker's totals as C has them.
-#[repr(C)]
-#[derive(Clone, Copy)]
-pub struct Totals {
-    pub records: usize,
-    pub parts: usize,
-    pub points: usize,
-}
+use pair::{Fault, Totals};
 
 // The refusal's number 0 is the checker's yes.
 #[repr(C)]
@@ -33,26 +24,18 @@ impl From<Fault> for Refusal {
     }
 }
 
-impl From<Result<pair::Totals, Fault>> for PairChecked {
+impl From<Result<Totals, Fault>> for PairChecked {
     ghost from_gives = { λ a r. r ≡ pair_checked (said_verdict a) };
 
-    fn from(a: Result<pair::Totals, Fault>) -> PairChecked {
+    fn from(a: Result<Totals, Fault>) -> PairChecked {
         match a {
             Ok(totals) => PairChecked {
                 refusal: Refusal::NONE,
-                totals: Totals {
-                    records: totals.records,
-                    parts: totals.parts,
-                    points: totals.points,
-                },
+                totals,
             },
             Err(e) => PairChecked {
                 refusal: Refusal::from(e),
-                totals: Totals {
-                    records: 0,
-                    parts: 0,
-                    points: 0,
-                },
+                totals: Totals::default(),
             },
         }
     }

@@ -12,8 +12,9 @@ mod heads;
 mod leaves;
 mod plans;
 
-// What a pair that is one holds.
-#[derive(Clone, Copy, Debug, PartialEq, Eq)]
+// What a pair that is one holds, as C has it.
+#[repr(C)]
+#[derive(Clone, Copy, Debug, Default, PartialEq, Eq)]
 pub struct Totals {
     pub records: usize,
     pub parts: usize,
@@ -36,11 +37,7 @@ fn walk(plan: Plan, null: Plan, shp: &[u8], shx: &[u8]) -> Result<Totals, Fault>
 {
     let mut at = 100;
     let mut ix = 100;
-    let mut totals = Totals {
-        records: 0,
-        parts: 0,
-        points: 0,
-    };
+    let mut totals = Totals::default();
     'walk: loop {
         let record = totals.records + 1;
         // P17: at the end of the .shp no index entry is left over
