@@ -53,6 +53,20 @@ grown own held =
       mmax = greatest own.mmax held.mmax;
     }
 
+-- the box with its z and its m where they are set, else 0
+abbrev pub with_ranges : BBoxZ → Bool → Bool → BBoxZ
+with_ranges b z m =
+    record {
+      xmin = b.xmin;
+      ymin = b.ymin;
+      xmax = b.xmax;
+      ymax = b.ymax;
+      zmin = cond z b.zmin zero_double;
+      zmax = cond z b.zmax zero_double;
+      mmin = cond m b.mmin zero_double;
+      mmax = cond m b.mmax zero_double;
+    }
+
 -- a kind without z or m gives 0 for it
 abbrev pub flat : Kind → BBoxZ → BBoxZ
 flat k b =

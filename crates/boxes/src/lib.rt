@@ -2,7 +2,7 @@
 #![tactic(auto)]
 
 ghost use Rattle.std.specs.Prelude.{◌≡◌, cond, get_or};
-ghost use Rattle.boxes.specs.Boxes.{least, greatest, grown, start_box, zero_double, flat, point_box, untouched, settled};
+ghost use Rattle.boxes.specs.Boxes.{least, greatest, grown, start_box, zero_double, flat, with_ranges, point_box, untouched, settled};
 
 use format::kinds::Kind;
 use format::shapes::Tables;
@@ -61,17 +61,24 @@ fn where_set(flag: bool, x: f64) -> f64
     if flag { x } else { 0.0 }
 }
 
+// The box with its z and its m where they are set, else 0.
+fn with_ranges(b: BBoxZ, z: bool, m: bool) -> BBoxZ
+    ensures { result ≡ with_ranges b z m }
+{
+    BBoxZ {
+        zmin: where_set(z, b.zmin),
+        zmax: where_set(z, b.zmax),
+        mmin: where_set(m, b.mmin),
+        mmax: where_set(m, b.mmax),
+        ..b
+    }
+}
+
 // A kind without z or m gives 0 for it.
 pub fn flat_box(k: Kind, b: BBoxZ) -> BBoxZ
     ensures { result ≡ flat k b }
 {
-    BBoxZ {
-        zmin: where_set(k.z, b.zmin),
-        zmax: where_set(k.z, b.zmax),
-        mmin: where_set(k.m, b.mmin),
-        mmax: where_set(k.m, b.mmax),
-        ..b
-    }
+    with_ranges(b, k.z, k.m)
 }
 
 fn first_or_zero(s: &[f64]) -> f64
@@ -113,11 +120,5 @@ pub fn settle(b: BBoxZ) -> BBoxZ
 {
     let z = !at_start(b.zmin, b.zmax);
     let m = !at_start(b.mmin, b.mmax);
-    BBoxZ {
-        zmin: where_set(z, b.zmin),
-        zmax: where_set(z, b.zmax),
-        mmin: where_set(m, b.mmin),
-        mmax: where_set(m, b.mmax),
-        ..b
-    }
+    with_ranges(b, z, m)
 }

@@ -2,14 +2,12 @@
 ghost use Rattle.std.specs.Prelude.{◌≡◌, Err};
 ghost use Rattle.header.specs.Reading.{said, header_of};
 ghost use Rattle.header.specs.Entries.{two_of, record_header, shape_index, said_record, said_entry};
-ghost use Rattle.export.specs.Headers.{zero_header, header_read, record_header_read, index_entry_read};
+ghost use Rattle.export.specs.Headers.{header_read, record_header_read, index_entry_read};
 ghost use Rattle.export.specs.Refusals.{refusal_of};
 
 use crate::refusals;
 use crate::refusals::Refusal;
 use format::shapes::Short;
-use format::units::Words;
-use header::bbox::BBoxZ;
 use header::entries::{RecordHeader, ShapeIndex};
 use header::{Header, HeaderError};
 
@@ -47,28 +45,7 @@ impl From<HeaderError> for Refusal {
     }
 }
 
-#[tactic(auto, using(format::proofs::NumberLaws::zero_bits))]
-fn no_header() -> Header
-    ensures { result ≡ zero_header }
-{
-    Header {
-        file_length: Words(0),
-        version: 0,
-        shape_type: 0,
-        bbox: BBoxZ {
-            xmin: 0.0,
-            ymin: 0.0,
-            xmax: 0.0,
-            ymax: 0.0,
-            zmin: 0.0,
-            zmax: 0.0,
-            mmin: 0.0,
-            mmax: 0.0,
-        },
-    }
-}
-
-// The structs for C have fields of their own names, so each answer has its own conversion.
+// C needs a struct with a name for each call, so each answer has its own conversion. What is not answered is zeros.
 impl From<Result<Header, HeaderError>> for HeaderRead {
     ghost from_gives = { λ a r. r ≡ header_read (said a) };
 
@@ -80,7 +57,7 @@ impl From<Result<Header, HeaderError>> for HeaderRead {
             },
             Err(e) => HeaderRead {
                 refusal: Refusal::from(e),
-                header: no_header(),
+                header: Header::default(),
             },
         }
     }
@@ -97,10 +74,7 @@ impl From<Result<RecordHeader, Short>> for RecordHeaderRead {
             },
             Err(e) => RecordHeaderRead {
                 refusal: Refusal::from(e),
-                header: RecordHeader {
-                    record_number: 0,
-                    content_length: Words(0),
-                },
+                header: RecordHeader::default(),
             },
         }
     }
@@ -117,10 +91,7 @@ impl From<Result<ShapeIndex, Short>> for IndexEntryRead {
             },
             Err(e) => IndexEntryRead {
                 refusal: Refusal::from(e),
-                entry: ShapeIndex {
-                    offset: Words(0),
-                    content_length: Words(0),
-                },
+                entry: ShapeIndex::default(),
             },
         }
     }

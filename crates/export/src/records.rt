@@ -1,13 +1,13 @@
 // A record read from its content, into lent stores.
 ghost use Rattle.std.specs.Prelude.{◌≡◌, Err};
 ghost use Rattle.record.specs.Reading.{null_shape, said_record};
-ghost use Rattle.export.specs.Records.{zero_point, zero_body, shape_read, record_read, Reads};
+ghost use Rattle.export.specs.Records.{shape_read, record_read, Reads};
 ghost use Rattle.export.specs.Refusals.{not_refused, refusal_of};
 
 use crate::refusals;
 use crate::refusals::Refusal;
 use format::units::Bytes;
-use multipart::{BBox, Body, Range};
+use multipart::Body;
 use record::{Point, Record, RecordError};
 
 // The form is 0 for Null, 1 for a point, 2 for a shape with parts and 3 for a multipoint; has_m is 1 where one of the last two has m.
@@ -45,42 +45,6 @@ impl From<RecordError> for Refusal {
     }
 }
 
-#[tactic(auto, using(format::proofs::NumberLaws::zero_bits))]
-fn no_point() -> Point
-    ensures { result ≡ zero_point }
-{
-    Point {
-        x: 0.0,
-        y: 0.0,
-        z: 0.0,
-        m: 0.0,
-    }
-}
-
-#[tactic(auto, using(format::proofs::NumberLaws::zero_bits))]
-fn no_body() -> Body
-    ensures { result ≡ zero_body }
-{
-    Body {
-        bbox: BBox {
-            xmin: 0.0,
-            ymin: 0.0,
-            xmax: 0.0,
-            ymax: 0.0,
-        },
-        z_range: Range {
-            low: 0.0,
-            high: 0.0,
-        },
-        m_range: Range {
-            low: 0.0,
-            high: 0.0,
-        },
-        parts: 0,
-        points: 0,
-    }
-}
-
 // A Null record has no values, and neither has a refusal.
 fn no_shape(refusal: Refusal) -> RecordRead
     ensures { result ≡ shape_read refusal null_shape }
@@ -90,8 +54,8 @@ fn no_shape(refusal: Refusal) -> RecordRead
         code: 0,
         form: 0,
         has_m: 0,
-        point: no_point(),
-        body: no_body(),
+        point: Point::default(),
+        body: Body::default(),
     }
 }
 

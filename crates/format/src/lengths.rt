@@ -47,10 +47,7 @@ fn is_multipoint(k: Kind) -> bool
 pub fn has_several(k: Kind) -> bool
     ensures { result ≡ has_several k }
 {
-    if k.parts {
-        return true;
-    }
-    is_multipoint(k)
+    k.parts || is_multipoint(k)
 }
 
 // ---- the pieces of a content, in words of two bytes
@@ -149,7 +146,7 @@ pub fn lengths_of(code: i32) -> Result<Lengths, KindError>
 pub fn content_words(f: Formula, p: u32, n: u32) -> Option<Words>
     ensures { said_counted result ≡ counted f p n }
 {
-    let words = (f.fixed as u64) + 2 * (p as u64) + (f.point as u64) * (n as u64);
+    let words = u64::from(f.fixed) + 2 * u64::from(p) + u64::from(f.point) * u64::from(n);
     if words < 0x8000_0000 {
         Some(Words(words as i32))
     } else {

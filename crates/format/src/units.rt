@@ -4,7 +4,7 @@ ghost use Rattle.format.specs.Units.{in_bytes, said_words, in_words};
 
 // A length in 16-bit words.
 #[repr(C)]
-#[derive(Clone, Copy, Debug, PartialEq, Eq)]
+#[derive(Clone, Copy, Debug, Default, PartialEq, Eq)]
 pub struct Words(pub i32);
 
 // A length in bytes.
@@ -19,7 +19,7 @@ impl From<Words> for Bytes {
     ghost from_gives = { λ w b. b ≡ in_bytes w };
 
     fn from(w: Words) -> Bytes {
-        let wide = w.0 as i64;
+        let wide = i64::from(w.0);
         Bytes(wide + wide)
     }
 }

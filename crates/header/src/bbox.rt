@@ -8,7 +8,7 @@ use fields::checked;
 use format::shapes::Short;
 
 #[repr(C)]
-#[derive(Clone, Copy)]
+#[derive(Clone, Copy, Default)]
 pub struct BBoxZ {
     pub xmin: f64,
     pub ymin: f64,

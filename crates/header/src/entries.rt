@@ -9,7 +9,7 @@ use format::units::Words;
 
 // In front of each record: its number from 1, and how long its content is.
 #[repr(C)]
-#[derive(Clone, Copy, Debug, PartialEq, Eq)]
+#[derive(Clone, Copy, Debug, Default, PartialEq, Eq)]
 pub struct RecordHeader {
     pub record_number: i32,
     pub content_length: Words,
@@ -17,7 +17,7 @@ pub struct RecordHeader {
 
 // In the .shx: where the record starts, and how long its content is.
 #[repr(C)]
-#[derive(Clone, Copy, Debug, PartialEq, Eq)]
+#[derive(Clone, Copy, Debug, Default, PartialEq, Eq)]
 pub struct ShapeIndex {
     pub offset: Words,
     pub content_length: Words,

@@ -16,7 +16,7 @@ pub mod bbox;
 pub mod entries;
 
 #[repr(C)]
-#[derive(Clone, Copy)]
+#[derive(Clone, Copy, Default)]
 pub struct Header {
     pub file_length: Words,
     pub version: i32,

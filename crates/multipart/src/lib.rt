@@ -15,7 +15,7 @@ mod judge;
 mod store;
 
 #[repr(C)]
-#[derive(Clone, Copy)]
+#[derive(Clone, Copy, Default)]
 pub struct BBox {
     pub xmin: f64,
     pub ymin: f64,
@@ -24,7 +24,7 @@ pub struct BBox {
 }
 
 #[repr(C)]
-#[derive(Clone, Copy)]
+#[derive(Clone, Copy, Default)]
 pub struct Range {
     pub low: f64,
     pub high: f64,
@@ -32,7 +32,7 @@ pub struct Range {
 
 // What a body holds beside what goes into the stores.
 #[repr(C)]
-#[derive(Clone, Copy)]
+#[derive(Clone, Copy, Default)]
 pub struct Body {
     pub bbox: BBox,
     pub z_range: Range,

@@ -22,7 +22,7 @@ mod sizes;
 
 // A point of one of the three point kinds; 0 for a z or m that its kind does not have.
 #[repr(C)]
-#[derive(Clone, Copy)]
+#[derive(Clone, Copy, Default)]
 pub struct Point {
     pub x: f64,
     pub y: f64,

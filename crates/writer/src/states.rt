@@ -14,22 +14,12 @@ impl State {
     pub fn new() -> Self
         ensures { result ≡ fresh }
     {
-        let bounds = BBoxZ {
-            xmin: 0.0,
-            ymin: 0.0,
-            xmax: 0.0,
-            ymax: 0.0,
-            zmin: 0.0,
-            zmax: 0.0,
-            mmin: 0.0,
-            mmax: 0.0,
-        };
         State {
             words: Words(50),
             number: 1,
             kind: 0,
             points: 0,
-            bbox: bounds,
+            bbox: BBoxZ::default(),
         }
     }
 }

@@ -6,8 +6,12 @@ use Rattle.format.proofs.lengths.content_words.Goals as goal
 
 pub returns-then-words-lt2147483648 : goal.returns-then-words-lt2147483648
 unfolding counted
-returns-then-words-lt2147483648 c = rw (lt-ltb _ (2 ^ 31) c.if-words-lt2147483648.true)
+returns-then-words-lt2147483648 c =
+    let small = rw (c.from.ensures, c.from-2.ensures, c.from-3.ensures, c.from-4.ensures) at c.if-words-lt2147483648.true in
+    rw (c.from.ensures, c.from-2.ensures, c.from-3.ensures, c.from-4.ensures, lt-ltb _ (2 ^ 31) small)
 
 pub returns-else-words-lt2147483648 : goal.returns-else-words-lt2147483648
 unfolding counted
-returns-else-words-lt2147483648 c = rw (le-ltb _ (2 ^ 31) c.if-words-lt2147483648.false)
+returns-else-words-lt2147483648 c =
+    let large = rw (c.from.ensures, c.from-2.ensures, c.from-3.ensures, c.from-4.ensures) at c.if-words-lt2147483648.false in
+    rw (le-ltb _ (2 ^ 31) large)
