@@ -54,7 +54,7 @@ pub fn start_box() -> BBoxZ
     }
 }
 
-// The value where the flag is set, else 0.
+// The value where the flag is set, else 0. (As `given` in format, of another type.)
 fn where_set(flag: bool, x: f64) -> f64
     ensures { result ≡ cond flag x zero_double }
 {

@@ -10,7 +10,7 @@ use format::units::Bytes;
 use multipart::Body;
 use record::{Point, Record, RecordError};
 
-// The form is 0 for Null, 1 for a point, 2 for a shape with parts and 3 for a multipoint; has_m is 1 where one of the last two has m.
+// As C reads it: the form is 0 for Null, 1 for a point, 2 for a shape with parts and 3 for a multipoint; has_m is 1 where one of the last two has m.
 #[repr(C)]
 #[derive(Clone, Copy)]
 pub struct RecordRead {

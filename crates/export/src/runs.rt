@@ -8,7 +8,7 @@ use crate::refusals;
 use crate::refusals::Refusal;
 use rings::{CloseError, RingType, TooFew};
 
-// What is told of a run, as a number.
+// What is told of a run, as a number: C reads it.
 #[repr(C)]
 #[derive(Clone, Copy)]
 pub struct Told {

@@ -101,7 +101,7 @@ const KINDS: [Kind; 14] = [
     },
 ];
 
-// The row with this code, where the table has it.
+// The row with this code, where the table has it. (It stays beside `find_kind`: it is public, and docs/PROMISES.md names it.)
 pub fn row_of(code: i32) -> Option<usize>
     ensures row { kinds_passed result ≡ row_at code }
     ensures in_table { IfSome result (λ i. i < 14) }

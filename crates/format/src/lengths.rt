@@ -72,7 +72,7 @@ const RANGE: u16 = 2 * DOUBLE;
 
 // ---- and their sums
 
-// So many words where the flag is set.
+// So many words where the flag is set. (One `if` for each type of number, here, in boxes and in writer: a generic one would need a law for each zero.)
 fn given(flag: bool, words: u16) -> u16
     ensures { (result ≡ given flag words) × (result ≤ words) }
 {

@@ -29,10 +29,6 @@ abbrev pub refusal : {A : Type 0} → CountsError → Said A
 refusal (CountsErrorIs.Short e) = short e.at e.present
 refusal (CountsErrorIs.Size at) = wrong_size at
 
--- the same two numbers, by the name that the crates above use
-abbrev pub Two : Type 0
-Two = Counts
-
 abbrev pub said_counts : Result Counts CountsError → Said Counts
 said_counts (Ok c) = gives c
 said_counts (Err e) = refusal e

@@ -8,6 +8,7 @@ use crate::leaves::little;
 use format::kinds::Kind;
 use format::lengths::Lengths;
 
+// The flags are those of the table of kinds; an enum of forms would be matched once more in each function that reads them.
 #[derive(Clone, Copy)]
 pub struct Plan {
     pub kind: Kind,

@@ -5,7 +5,7 @@ use std::env::FillError;
 use std::io;
 use std::rt::Env;
 
-// How many arguments there are, the program's own name among them. A buffer of no bytes takes none of them, and tells those from a missing one.
+// How many arguments there are, the program's own name among them: none but the system says, so each is asked for. A buffer of no bytes takes none of them, and tells those from a missing one.
 fn arg_count(rt: &impl Env) -> usize {
     for i in 0..usize::MAX {
         if let Err(FillError::NotPresent) = rt.arg(i, &mut []) {

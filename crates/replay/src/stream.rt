@@ -64,7 +64,8 @@ fn tally_block(block: &[u8], before: Tally, stores: &mut Stores, out: &mut [u8])
     tally
 }
 
-// Reads until the buffer is full, the input ends or a read fails, and says how many bytes there are at its front.
+// Reads until the buffer is full, the input ends or a read fails, and says how many bytes there are at its front. (`read_exact` would not say how many;
+// the one of `report` hands a read that fails on, and here it is an end.)
 fn read_full(input: &mut impl Read, buffer: &mut [u8]) -> usize
     ensures { result ≤ length buffer.new }
 {
@@ -97,6 +98,7 @@ pub fn run(
 ) -> Tally {
     let buffer = &mut buffer[..];
     let mut tally = Tally::default();
+    // the input ends it: a loop has to have a bound
     for _ in 0..u64::MAX {
         let Some(length) = next_length(input) else {
             return tally.broken();

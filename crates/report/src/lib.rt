@@ -17,7 +17,7 @@ const SHP_ROOM: usize = SHP_MOST + 1;
 
 const SHX_ROOM: usize = SHX_MOST + 1;
 
-// The bytes of argument i at the front of the buffer, and how many; none, where it is missing or longer.
+// The bytes of argument i at the front of the buffer, and how many; 0, where it is missing or longer: no file has an empty name.
 fn arg(rt: &impl Env, i: usize, buf: &mut [u8]) -> usize
     ensures { result ≤ length buf.new }
 {

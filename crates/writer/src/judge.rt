@@ -65,7 +65,7 @@ fn has_points(k: Kind, counts: &[u32], n: usize) -> bool
     has_several(k) || n == usize::from(k.code != 0)
 }
 
-// The number where the flag is set, else 0.
+// The number where the flag is set, else 0. (As `given` in format, of another type.)
 fn where_set(flag: bool, n: usize) -> usize
     ensures { result ≡ cond flag n 0 }
 {

@@ -63,7 +63,7 @@ pub struct Adding {
 #[derive(Clone, Copy, Debug, PartialEq, Eq)]
 pub struct NoState;
 
-// A state's kind is in the table.
+// A state's kind is in the table. (There is nothing to promise: `NoState` has one value.)
 impl From<UnknownKind> for NoState {
     fn from(_e: UnknownKind) -> NoState {
         NoState

@@ -17,8 +17,8 @@ use format::shapes::{Layout, Tables};
 use format::units::Words;
 use header::bbox::BBoxZ;
 
-// Two numbers at the front: a record's header is its number and its content, an index entry where the record starts and its content. (The arrays that
-// `header` makes of them are for callers: here they would be made and then copied.)
+// Two numbers at the front: a record's header is its number and its content, an index entry where the record starts and its content. (By `header`
+// it would be no plainer: `entry[..8].copy_from_slice(&index_entry_bytes(ShapeIndex { offset, content_length }))`, and the like for the other.)
 pub(crate) fn put_two(out: &mut [u8], first: i32, content: Words)
     requires { 8 ≤ length out.old }
     ensures { out.new ≡ sets out.old 0 (two_big (of_z w32 first) (of_z w32 content.0)) }
