@@ -42,7 +42,7 @@ pub fn be_number(s: &[u8], at: usize, k: usize) -> u64
         .fold(0, |n, b| (n << 8) | u64::from(*b))
 }
 
-// The k low bytes of x go in at a place, low byte first.
+// The k low bytes of x go in at a place, low byte first. (By number: `to_le_bytes` has eight of them, and k is 4 or 8.)
 pub fn put_le(out: &mut [u8], at: usize, x: u64, k: usize)
     requires { at + k ≤ length out.old }
     ensures { out.new ≡ sets out.old at (le_bytes k x) }

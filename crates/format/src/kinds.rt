@@ -2,6 +2,7 @@
 ghost use Rattle.std.specs.Prelude.{◌≡◌, ◌<◌, IfSome};
 ghost use Rattle.format.specs.Kinds.{kinds_passed, row_at, said_found, kind_of};
 
+// A code and no enum of kinds: document 01 asks for one constant table of code, z, m and parts.
 #[derive(Clone, Copy, Debug, PartialEq, Eq)]
 pub struct Kind {
     pub code: u32,

@@ -26,7 +26,7 @@ fn holds(flag: bool, values: &[f64], n: usize) -> bool
     values.len() == if flag { n } else { 0 }
 }
 
-// Whether the tables agree on the number of points.
+// Whether the tables agree on the number of points. (The writer asks this by a kind, of which points and Null are two more cases.)
 fn agree(layout: Layout, t: &Tables) -> bool
     ensures { result ≡ lent_agree layout t.now }
 {

@@ -67,7 +67,8 @@ fn judge_parts(s: &[u8], said: Counts) -> Result<usize, CountsError>
     Ok(points)
 }
 
-// Where a range and n values from a place on end; at that place, where the flag is not set.
+// Where a range and n values from a place on end; at that place, where the flag is not set. (Flag, number and place go along in four functions; each call
+// has another place, so a struct of the three would be made anew each time.)
 pub(crate) fn end_after(flag: bool, n: usize, at: usize) -> usize
     requires { end_after flag n at < 2 ^ 64 }
     ensures { result ≡ end_after flag n at }

@@ -13,7 +13,7 @@ use format::kinds::Kind;
 use format::lengths::Lengths;
 use format::units::Words;
 
-// ---- the headers
+// ---- the headers (slices of at least 100 bytes, and no arrays: the rules speak of the whole file, so each would need a law of its first 100 bytes)
 
 // P3: the code is 9994, the unused bytes are 0, the version is 1000.
 fn starts_right(shp: &[u8]) -> bool

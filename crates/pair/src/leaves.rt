@@ -32,7 +32,7 @@ pub(crate) fn words_at(s: &[u8], at: usize) -> Words
     Words(fields::signed(fields::be_number(s, at, 4)))
 }
 
-// Words that are not negative, as a number.
+// Words that are not negative, as a number. (A type of such words would ask for the same fact at each field that is read, where the rule before tells it.)
 pub(crate) fn count(words: Words) -> usize
     requires { Whole words }
     ensures { result ≡ nat_abs words.0 }

@@ -72,6 +72,7 @@ pub fn ring_type_from_points_ordering(xs: &[f64], ys: &[f64], n: usize) -> Resul
         return Err(TooFew);
     }
     let mut sum = 0.0;
+    // by number, since each turn has neighbours in both stores
     for i in 1..n {
         sum += (xs[i] - xs[i - 1]) * (ys[i] + ys[i - 1]);
     }

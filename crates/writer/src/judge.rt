@@ -126,7 +126,7 @@ fn judge_room(size: Bytes, space: Space) -> Result<(), AddError>
     Ok(())
 }
 
-// A shape of a kind that was judged: 10, 7, 6.
+// A shape of a kind that was judged: 10, 7, 6. (The code goes along beside its kind, as the caller gave it: an i32, which is written.)
 fn judge_shape(
     state: State,
     code: i32,
