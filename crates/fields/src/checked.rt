@@ -32,6 +32,7 @@ pub fn fields_end(s: &[u8], at: usize, width: usize, n: usize) -> Result<usize, 
     Ok(at + width * n)
 }
 
+// (A function for each byte order, as in the root.)
 pub fn be_i32(s: &[u8], at: usize) -> Result<i32, Short>
     ensures { Reads 4 at s.now (be_i32 at s.now) result }
 {

@@ -30,7 +30,7 @@ pub struct Range {
     pub high: f64,
 }
 
-// What a body holds beside what goes into the stores.
+// What a body holds beside what goes into the stores. (A struct of C's: a range that the layout lacks is zeros, and no `Option`.)
 #[repr(C)]
 #[derive(Clone, Copy, Default)]
 pub struct Body {

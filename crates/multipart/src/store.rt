@@ -61,7 +61,7 @@ fn raise(x: f64) -> f64
     if fields::below(-10e38, x) { x } else { -10e38 }
 }
 
-// The n values behind a range, raised, where the flag is set.
+// The n values behind a range, raised, where the flag is set. (Beside `store_z`, whose one line it has too.)
 fn store_m(s: &[u8], m: bool, n: usize, at: usize, ms: &mut [f64])
     requires { (end_after m n at ≤ length s.now) × (cond m n 0 ≤ length ms.old) }
     ensures { ms.new ≡ sets ms.old 0 (cond m (map raised (doubles_at 8 n (at + 16) s.now)) []) }

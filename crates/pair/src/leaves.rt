@@ -8,7 +8,7 @@ ghost use Rattle.pair.specs.Plans.{Word, Field, Whole};
 
 use format::units::{Bytes, Words};
 
-// The bits of an i32 field, high byte first.
+// The bits of an i32 field, high byte first. (A function for each byte order, as in `fields`.)
 pub(crate) fn big(s: &[u8], at: usize) -> usize
     requires { at + 4 ≤ length s.now }
     ensures { Word (big_at at s.now) result }

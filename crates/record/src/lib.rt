@@ -20,7 +20,7 @@ mod points;
 mod several;
 mod sizes;
 
-// A point of one of the three point kinds; 0 for a z or m that its kind does not have.
+// A point of one of the three point kinds; 0 for a z or m that its kind does not have. (A struct of C's, so no `Option`.)
 #[repr(C)]
 #[derive(Clone, Copy, Default)]
 pub struct Point {

@@ -8,7 +8,7 @@ use std::io::Read;
 use std::rt::{Env, Files};
 use std::{fs, io, str};
 
-// The most bytes that a .shp and a .shx may have; and the room for one more, so that a larger one shows.
+// The most bytes that a .shp and a .shx may have; and the room for one more, so that a larger one shows. No heap is used, so the buffers are arrays.
 const SHP_MOST: usize = 49_152;
 
 const SHX_MOST: usize = 8_192;

@@ -31,7 +31,7 @@ impl From<TooFew> for CloseError {
     }
 }
 
-// There is a first point, and it equals the last.
+// There is a first point, and it equals the last. (Turning begins with the same test: a function of it would be as long as the test.)
 pub fn is_part_closed(xs: &[f64], ys: &[f64], n: usize) -> Result<bool, TooFew>
     ensures answered { said_closed result ≡ closed_of xs.now ys.now n }
     ensures within { OnOk result ((n ≤ length xs.now) × (n ≤ length ys.now)) }
