@@ -22,10 +22,6 @@ pub field-cons : (n at : ℕ) (s : List ℕ) → at < length s → field (suc n)
 unfolding field
 field-cons n at s h = rw (add-one, drop-cons s at 0)
 
-pub field-drop : (n i at : ℕ) (s : List ℕ) → field n i (drop at s) ≡ field n (at + i) s
-unfolding field
-field-drop n i at s = rw drop-drop
-
 -- ---- lengths
 
 pub length_le_bytes : (n x : ℕ) → length (le_bytes n x) ≡ n

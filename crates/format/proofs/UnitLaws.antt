@@ -23,26 +23,18 @@ use Rattle.format.proofs.OrderLaws.{both_true}
 pub wide : (z : ℤ) → SFits w32 z → SFits w64 z
 wide z f = record { sfits = omega (arith, f.sfits) }
 
-pub doubled_fits : (z : ℤ) → SFits w32 z → SFits w64 (z +ℤ z)
-doubled_fits (pos n) f = record { sfits = omega (arith, f.sfits) }
-doubled_fits (negsuc n) f = record { sfits = omega (arith, f.sfits) }
-
 pub half-fits : (z : ℤ) → SFits w64 z → SFits w64 (shr_z z 2)
 half-fits z f = sfits_le (mag_shr z 2) f
 
 -- ---- the tests of the definition, from those of the code
 
-pub below_i32 : (z : ℤ) → lt_z z (negsuc 0x7fff_ffff) ≡ true → in_i32 z ≡ false
-below_i32 (pos n) e = absurd (subst T (sym e) tt)
-below_i32 (negsuc n) e = le-ltb n (2 ^ 31) (ltb-true 0x7fff_ffff n e)
-
-pub above_i32 : (z : ℤ) → lt_z (pos 0x7fff_ffff) z ≡ true → in_i32 z ≡ false
-above_i32 (pos n) e = le-ltb n (2 ^ 31) (ltb-true 0x7fff_ffff n e)
-above_i32 (negsuc n) e = absurd (subst T (sym e) tt)
-
-pub in-i32 : (z : ℤ) → lt_z z (negsuc 0x7fff_ffff) ≡ false → lt_z (pos 0x7fff_ffff) z ≡ false → mag z < 2 ^ 31
-in-i32 (pos n) e f = let h : n ≤ 0x7fff_ffff = ltb-false 0x7fff_ffff n f in omega arith
-in-i32 (negsuc n) e f = let h : n ≤ 0x7fff_ffff = ltb-false 0x7fff_ffff n e in omega arith
+-- and from what a conversion to i32 says
+pub not_in_i32 : (z : ℤ) → (SFits w32 z → ⊥) → in_i32 z ≡ false
+not_in_i32 z lacks = go (in_i32 z) refl
+  where
+    go : (b : Bool) → in_i32 z ≡ b → b ≡ false
+    go true t = absurd (lacks (record { sfits = ltb-true (mag z) (2 ^ 31) t }))
+    go false t = refl
 
 pub same_yes : (x y : ℤ) → x ≡ y → same_int x y ≡ true
 same_yes x y e = subst (λ (z : ℤ). same_int x z ≡ true) e (itself x)

@@ -147,11 +147,7 @@ pub fn content_words(f: Formula, p: u32, n: u32) -> Option<Words>
     ensures { said_counted result ≡ counted f p n }
 {
     let words = u64::from(f.fixed) + 2 * u64::from(p) + u64::from(f.point) * u64::from(n);
-    if words < 0x8000_0000 {
-        Some(Words(words as i32))
-    } else {
-        None
-    }
+    Some(Words(i32::try_from(words).ok()?))
 }
 
 // Whether a content with p parts and n points has so many words.

@@ -30,17 +30,13 @@ impl TryFrom<Bytes> for Words {
     ghost try_from_gives = { λ b r. said_words r ≡ in_words b };
 
     fn try_from(b: Bytes) -> Result<Words, NotWords> {
-        let n = b.0;
-        let half = n >> 1;
-        if half < -0x8000_0000 {
+        let Ok(half) = i32::try_from(b.0 >> 1) else {
+            return Err(NotWords);
+        };
+        // an odd number is not twice its half
+        if Bytes::from(Words(half)) != b {
             return Err(NotWords);
         }
-        if 0x7fff_ffff < half {
-            return Err(NotWords);
-        }
-        if half + half != n {
-            return Err(NotWords);
-        }
-        Ok(Words(half as i32))
+        Ok(Words(half))
     }
 }

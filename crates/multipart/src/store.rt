@@ -61,7 +61,7 @@ fn raise(x: f64) -> f64
     if fields::below(-10e38, x) { x } else { -10e38 }
 }
 
-// The n values behind a range, raised, where the flag is set. (Beside `store_z`, whose one line it has too.)
+// The n values behind a range, raised, where the flag is set. (Not by a call of `store_z`: its flag would be asked twice.)
 fn store_m(s: &[u8], m: bool, n: usize, at: usize, ms: &mut [f64])
     requires { (end_after m n at ≤ length s.now) × (cond m n 0 ≤ length ms.old) }
     ensures { ms.new ≡ sets ms.old 0 (cond m (map raised (doubles_at 8 n (at + 16) s.now)) []) }
@@ -86,14 +86,11 @@ fn range_at(s: &[u8], flag: bool, at: usize) -> Range
             high: fields::le_f64_at(s, at + 8),
         }
     } else {
-        Range {
-            low: 0.0,
-            high: 0.0,
-        }
+        Range::default()
     }
 }
 
-// Whether the stores hold p parts and n points; z and m only where they are used.
+// Whether the stores hold p parts and n points; z and m only where they are used. (No `Tables` is made of them: reading lends them as `&mut`.)
 pub(crate) fn has_room(
     layout: Layout,
     p: usize,

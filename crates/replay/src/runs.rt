@@ -7,6 +7,7 @@ use crate::seen::Seen;
 use crate::stores::{self, Filler, Stores, first, is_left};
 use rings::{RingType, TooFew};
 
+// What a case has for an answer: 1 or 0, or the refusal's number.
 fn closed(xs: &[f64], ys: &[f64], n: usize) -> u8 {
     match rings::is_part_closed(xs, ys, n) {
         Ok(closed) => u8::from(closed),

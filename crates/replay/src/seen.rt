@@ -67,7 +67,7 @@ impl<'a> Seen<'a> {
         ])
     }
 
-    // A refusal's number and its value, as a case has them, and nothing more.
+    // A refusal's number and its value, as a case has them, and nothing more. (The numbers are bytes of a case, and not taken from `export`, which is tested by them.)
     pub fn is_refusal(self, which: u8, value: u64) -> bool {
         self.byte(which).long(value).is_whole()
     }

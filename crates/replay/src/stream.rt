@@ -14,7 +14,7 @@ pub const MEBIBYTE: usize = 1048576;
 pub struct Tally {
     pub cases: u64,
     pub wrong: u64,
-    pub first: u64,
+    pub first: Option<u64>,
     pub broken: bool,
 }
 
@@ -28,7 +28,7 @@ impl Tally {
         Tally {
             cases,
             wrong: self.wrong.wrapping_add(1),
-            first: if self.wrong == 0 { cases } else { self.first },
+            first: self.first.or(Some(cases)),
             ..self
         }
     }
@@ -43,7 +43,8 @@ impl Tally {
 
 impl fmt::Display for Tally {
     fn fmt<W: fmt::Write>(&self, f: &mut fmt::Formatter<W>) -> fmt::Result {
-        let (cases, wrong, first) = (self.cases, self.wrong, self.first);
+        let (cases, wrong) = (self.cases, self.wrong);
+        let first = self.first.unwrap_or(0);
         let broken = u8::from(self.broken);
         write!(
             f,

@@ -52,7 +52,7 @@ impl From<KindError> for AddError {
     }
 }
 
-// How many bytes the record took, or why it was refused; and the state after the call: a refusal returns the one that it was given.
+// How many bytes the record took, or why it was refused; and the state after the call: a refusal returns the one that it was given, as `Adds` promises.
 #[derive(Clone, Copy)]
 pub struct Adding {
     pub answer: Result<usize, AddError>,

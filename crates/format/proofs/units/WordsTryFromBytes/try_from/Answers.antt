@@ -1,54 +1,50 @@
--- `Words::try_from` meets its contract: the half, rounded down, is in an i64; the tests say whether it is in an i32 and exact.
+-- `Words::try_from` meets its contract: an i32 holds the half, rounded down, or not; and twice the half is the number, or not.
 use mathlib.Core.Path.{◌≡◌, sym, ap, ◌∙◌}
-use Prim.Native.Nat.{◌^◌, ◌<◌}
-use lib.IntN.{ℤ, pos, negsuc, ◌+ℤ◌}
-use lib.Signed.{lt_z, mag, shr_z}
+use lib.IntN.{ℤ, ◌+ℤ◌}
+use lib.Signed.{shr_z}
 use mir.Syntax.{w32, w64}
 use mir.Val.{SFits, to_z, of_z}
 use mir.ValLaws.{to_z-of_z}
-use Rattle.format.proofs.UnitLaws.{doubled_fits, half-fits, below_i32, above_i32, in-i32, same_bits, not_held, not_even, is-half}
+use Rattle.std.proofs.lemmas.Result.{OkIff-at_ok, OkIff-at_err}
+use Rattle.std.proofs.lemmas.Bool.{not-true, not-false, iff_false}
+use Rattle.std.proofs.lemmas.Bool.Decides.{Decides-int_eq}
 use Rattle.format.specs.declared.units.Bytes.{Bytes}
-use Rattle.format.specs.Units.{half}
+use Rattle.format.specs.Units.{half, in_bytes}
+use Rattle.format.proofs.UnitLaws.{half-fits, not_in_i32, not_held, not_even, is-half}
 use Rattle.format.proofs.units.WordsTryFromBytes.try_from.Goals as goal
 
 -- what the local holds
 abbrev local : Bytes → ℤ
 local b = to_z w64 (of_z w64 (shr_z (to_z w64 (of_z w64 b.0)) 2))
 
-module _ (b : Bytes) (f : SFits w64 b.0) where
-  held : local b ≡ half b
-  held = ap (λ (x : ℤ). to_z w64 (of_z w64 (shr_z x 2))) (to_z-of_z w64 b.0 f) ∙ to_z-of_z w64 (shr_z b.0 2) (half-fits b.0 f)
+held : (b : Bytes) → SFits w64 b.0 → local b ≡ half b
+held b f = ap (λ (x : ℤ). to_z w64 (of_z w64 (shr_z x 2))) (to_z-of_z w64 b.0 f) ∙ to_z-of_z w64 (shr_z b.0 2) (half-fits b.0 f)
 
-  below : (lt_z (local b) (negsuc 0x7fff_ffff) ≡ lt_z (half b) (negsuc 0x7fff_ffff))
-  below = ap (λ (x : ℤ). lt_z x (negsuc 0x7fff_ffff)) held
-
-  above : (lt_z (pos 0x7fff_ffff) (local b) ≡ lt_z (pos 0x7fff_ffff) (half b))
-  above = ap (lt_z (pos 0x7fff_ffff)) held
-
-  -- the bits that the third test compares
-  bits : of_z w64 (local b +ℤ local b) ≡ of_z w64 (half b +ℤ half b)
-  bits = ap (λ (x : ℤ). of_z w64 (x +ℤ x)) held
-
-pub returns-then-half-ltminus2147483648 : goal.returns-then-half-ltminus2147483648
-returns-then-half-ltminus2147483648 c =
+pub returns-in_default : goal.returns-in_default
+returns-in_default c =
     let b = c.args.b in
-    not_held b (below_i32 (half b) (sym (below b (search)) ∙ c.if-half-ltminus2147483648.true))
+    let asked = rw (held b search) at c.try_from.ensures in
+    not_held b (not_in_i32 (half b) (OkIff-at_err c.try_from.result _ _ c.in_default.field-0 asked c.in_default.is))
 
-pub returns-then-half-gt2147483647 : goal.returns-then-half-gt2147483647
-returns-then-half-gt2147483647 c =
-    let b = c.args.b in
-    not_held b (above_i32 (half b) (sym (above b (search)) ∙ c.if-half-gt2147483647.true))
+-- twice the half that an i32 holds
+twice : (b : Bytes) (z : ℤ) (w : Bytes) → SFits w32 (half b) → z ≡ half b → w ≡ in_bytes (record { 0 = to_z w32 (of_z w32 z) }) → w.0 ≡ half b +ℤ half b
+twice b z w f e d =
+    let back : to_z w32 (of_z w32 z) ≡ half b = ap (λ (x : ℤ). to_z w32 (of_z w32 x)) e ∙ to_z-of_z w32 (half b) f in
+    ap (λ (x : Bytes). x.0) d ∙ ap (λ (x : ℤ). x +ℤ x) back
 
-pub returns-then-half-n : goal.returns-then-half-n
-returns-then-half-n c =
+pub returns-then-ne : goal.returns-then-ne
+returns-then-ne c =
     let b = c.args.b in
-    not_even b (λ e. c.if-half-n.true (bits b (search) ∙ ap (of_z w64) e))
+    let asked = rw (held b search) at c.try_from.ensures in
+    let h = OkIff-at_ok c.try_from.result _ _ c.in-Ok.half asked c.in-Ok.is in
+    let t = twice b _ c.from.result h.0 h.1 c.from.ensures in
+    not_even b (λ e. iff_false (Decides-int_eq c.from.result.0 b.0) (not-true _ (sym c.ne.ensures ∙ c.if-ne.true)) (t ∙ e))
 
 pub returns : goal.returns
 returns c =
     let b = c.args.b in
-    let f : SFits w64 b.0 = search in
-    let small : mag (half b) < 2 ^ 31 = in-i32 (half b) (sym (below b f) ∙ c.if-half-ltminus2147483648.false) (sym (above b f) ∙ c.if-half-gt2147483647.false) in
-    let twice = doubled_fits (half b) (record { sfits = small }) in
-    let e : half b +ℤ half b ≡ b.0 = same_bits w64 _ _ twice f (sym (bits b f) ∙ c.if-half-n.false) in
-    rw (held b f, to_z-of_z w32 (half b) (record { sfits = small })) (is-half b small e)
+    let asked = rw (held b search) at c.try_from.ensures in
+    let h = OkIff-at_ok c.try_from.result _ _ c.in-Ok.half asked c.in-Ok.is in
+    let t = twice b _ c.from.result h.0 h.1 c.from.ensures in
+    let e : c.from.result.0 ≡ b.0 = (Decides-int_eq c.from.result.0 b.0).0 (not-false _ (sym c.ne.ensures ∙ c.if-ne.false)) in
+    rw (h.1, to_z-of_z w32 (half b) h.0) (is-half b (h.0.sfits) (sym t ∙ e))
