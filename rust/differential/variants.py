@@ -26,12 +26,12 @@ VARIANTS = [
      'if fields::below(x, -10e38) { -10e38 } else { x }'),
     ('a cut pair is Short at the front of its part', 'multipart/src/judge.rt', 'at = fields_end(s, at, 8, 2 * count)?;',
      'at = match fields_end(s, at, 8, 2 * count) {\n            Ok(end) => end,\n'
-     '            Err(e) => return Err(CountsError::Short(Short { at, present: e.present })),\n        };'),
+     '            Err(e) => return Err(CountsError::Short(format::shapes::Short { at, present: e.present })),\n        };'),
     ('a negative n is 3 at 32', 'multipart/src/lib.rt', 'judge::not_negative(second, 36)?', 'judge::not_negative(second, 32)?'),
     ('a negative n of a multipoint is 3 at 36', 'multipart/src/lib.rt', 'let points = judge::not_negative(first, 32)?;',
      'let points = judge::not_negative(first, 36)?;'),
     ('a cut pair of a multipoint is Short at the first', 'multipart/src/judge.rt', 'fields_end(s, 36, 8, 2 * points)?;',
-     'if fields_end(s, 36, 8, 2 * points).is_err() {\n            return Err(CountsError::Short(Short { at: 36, present: s.len() - 36 }));\n        }'),
+     'if fields_end(s, 36, 8, 2 * points).is_err() {\n            return Err(CountsError::Short(format::shapes::Short { at: 36, present: s.len() - 36 }));\n        }'),
     ('a refusal stores a count', 'multipart/src/lib.rt', 'let points = judge::judge_rest(s, layout, said)?;',
      'let points = match judge::judge_rest(s, layout, said) {\n        Ok(points) => points,\n        Err(e) => {\n            if 0 < counts.len() {\n'
      '                counts[0] = 0;\n            }\n            return Err(BodyError::from(e));\n        }\n    };'),
