@@ -13,15 +13,13 @@ ROOT = os.path.dirname(os.path.dirname(os.path.dirname(os.path.abspath(__file__)
 # What is wrong, in which file, which text, and what stands in its place.
 VARIANTS = [
     ('closed without y', 'rings/src/lib.rt',
-     'Ok(fields::same(xs[0], xs[n - 1]) && fields::same(ys[0], ys[n - 1]))', 'Ok(fields::same(xs[0], xs[n - 1]))'),
+     'fields::same(xs[0], xs[n - 1]) && fields::same(ys[0], ys[n - 1])', 'fields::same(xs[0], xs[n - 1])'),
     ('2^-1074 closes a ring at 0', 'fields/src/lib.rt', '    if rest == 0 {\n', '    if rest <= 1 {\n'),
     ('the turning is not halved', 'rings/src/lib.rt', 'if sum / 2.0 < 0.0', 'if sum < 0.0'),
     ('the turning takes y for x', 'rings/src/lib.rt', '(xs[i] - xs[i - 1])', '(ys[i] - ys[i - 1])'),
     ('closing appends x twice', 'rings/src/lib.rt', 'ys[n] = ys[0];', 'ys[n] = xs[0];'),
-    ('an empty part is refused', 'multipart/src/lib.rt', '    u32::try_from(count).ok()\n',
-     '    if count == 0 {\n        return None;\n    }\n    u32::try_from(count).ok()\n'),
-    ('a part of 2147483647 points is refused', 'multipart/src/lib.rt', 'let count = end.checked_sub(start)?;',
-     'let count = end.checked_sub(start)?.checked_add(1)? - 1;'),
+    ('an empty part is refused', 'multipart/src/lib.rt', 'if count < 0 ||', 'if count <= 0 ||'),
+    ('a part of 2147483647 points is refused', 'multipart/src/lib.rt', 'i64::from(i32::MAX) < count', 'i64::from(i32::MAX) <= count'),
     ('the m rule with its arguments exchanged', 'multipart/src/store.rt', 'if fields::below(-10e38, x) { x } else { -10e38 }',
      'if fields::below(x, -10e38) { -10e38 } else { x }'),
     ('a cut pair is Short at the front of its part', 'multipart/src/judge.rt', 'at = fields_end(s, at, 8, 2 * count)?;',
@@ -33,8 +31,9 @@ VARIANTS = [
     ('a cut pair of a multipoint is Short at the first', 'multipart/src/judge.rt', 'fields_end(s, 36, 8, 2 * points)?;',
      'if fields_end(s, 36, 8, 2 * points).is_err() {\n            return Err(CountsError::Short(format::shapes::Short { at: 36, present: s.len() - 36 }));\n        }'),
     ('a refusal stores a count', 'multipart/src/lib.rt', 'let points = judge::judge_rest(s, layout, said)?;',
-     'let points = match judge::judge_rest(s, layout, said) {\n        Ok(points) => points,\n        Err(e) => {\n            if 0 < counts.len() {\n'
-     '                counts[0] = 0;\n            }\n            return Err(BodyError::from(e));\n        }\n    };'),
+     'let points = match judge::judge_rest(s, layout, said) {\n        Ok(points) => points,\n        Err(CountsError::Size(at)) => {\n'
+     '            if 0 < counts.len() {\n                counts[0] = 0;\n            }\n            return Err(BodyError::Size(at));\n        }\n'
+     '        Err(e) => return Err(BodyError::from(e)),\n    };'),
     ('counts that fill their store are refused', 'multipart/src/store.rt', '    p <= counts.len()', '    p < counts.len()'),
     ('x that fill their store are refused', 'multipart/src/store.rt', '&& n <= xs.len()', '&& n < xs.len()'),
     ('y that fill their store are refused', 'multipart/src/store.rt', '&& n <= ys.len()', '&& n < ys.len()'),

@@ -3,6 +3,8 @@ use Rattle.std.specs.Prelude.{◌≡◌, Bool, true, false, cond, ◌||◌, ℕ,
 use mathlib.Core.List.{List, [], ◌∷◌, ◌++◌, map, flatten}
 use Rattle.format.specs.Encoding.{point_bytes}
 use Rattle.format.specs.Numbers.{little, f64s_le}
+use Rattle.format.specs.declared.shapes.Layout.{Layout}
+use Rattle.format.specs.declared.shapes.Tables.{Tables}
 use Rattle.header.specs.declared.bbox.BBoxZ.{BBoxZ}
 use Rattle.layouts.specs.Answers.{lent_size}
 use Rattle.layouts.specs.Tables.{points_of, points_lent}
@@ -49,3 +51,7 @@ pub record Placed (parts z m : Bool) (counts : List ℕ) (xs ys zs ms : List Flo
   pub agreed : Agreed z m (points_lent parts counts xs) xs ys zs ms
   pub held : points_lent parts counts xs < 2 ^ 31
   pub fits : lent_size parts z m counts xs ≤ room
+
+-- the same of tables that are lent together
+abbrev pub PlacedLent : Layout → Tables → ℕ → Type 0
+PlacedLent l t room = Placed l.parts l.z l.m t.counts.now t.xs.now t.ys.now t.zs.now t.ms.now room

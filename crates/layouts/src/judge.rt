@@ -31,10 +31,11 @@ fn agree(layout: Layout, t: &Tables) -> bool
     ensures { result ≡ lent_agree layout t.now }
 {
     let n = t.xs.len();
-    counted(layout.parts, t.counts, n)
-        && t.ys.len() == n
+    // the lengths first: the sum is the one test that goes through a table
+    t.ys.len() == n
         && holds(layout.z, t.zs, n)
         && holds(layout.m, t.ms, n)
+        && counted(layout.parts, t.counts, n)
 }
 
 // Whether an i32 holds both counts.

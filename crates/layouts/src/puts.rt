@@ -3,8 +3,8 @@ ghost use Rattle.std.specs.Prelude.{◌≡◌, true, ◌+◌, ◌*◌, ◌≤◌
 ghost use Rattle.std.proofs.lemmas.List.Edits.{sets};
 ghost use Rattle.format.specs.Encoding.{measure_bytes, shape_bytes};
 ghost use Rattle.format.specs.Shapes.{sum};
-ghost use Rattle.layouts.specs.Lent.{lent_shape, PlacedLent};
-ghost use Rattle.layouts.specs.Steps.{measure_size, starts_bytes, counts_bytes, front_bytes, front_size, pairs_bytes};
+ghost use Rattle.layouts.specs.Lent.{lent_shape};
+ghost use Rattle.layouts.specs.Steps.{measure_size, starts_bytes, counts_bytes, front_bytes, front_size, pairs_bytes, PlacedLent};
 ghost use Rattle.layouts.specs.Tables.{measure_of};
 
 use crate::judge::{front_size, measure_size};

@@ -4,47 +4,55 @@ use mathlib.Core.Bool.{Bool, true, false, cond}
 use mathlib.Core.List.{List, [], ◌∷◌}
 use Prim.Native.Nat.{ℕ, zero, suc, ◌+◌, ◌-◌, ◌^◌, ◌≤◌, ◌<◌}
 use native.Mathlib.Omega.{arith}
-use lib.Dec.{ltb}
 use lib.IntN.{ℤ, pos, negsuc, nat_abs, ◌-ℤ◌}
+use lib.Signed.{lt_z}
 use lib.ListN.{length}
-use mir.Syntax.{w32}
-use mir.Val.{SFits}
-use borrow.Author.Tests.{lt-ltb, ltb-true}
-use Rattle.std.specs.Prelude.{Option, Some, None, unwrap_or, Result, Ok, Err}
-use Rattle.std.specs.Int.{FitsUnsignedBits}
-use Rattle.std.specs.Result.{OkIff, result_ok}
+use mir.Syntax.{w32, w64}
+use mir.Val.{SFits, to_z, of_z}
+use borrow.Author.Tests.{lt-ltb, le-ltb, ltb-true, ltb-false}
+use Rattle.std.specs.Prelude.{Option, Some, None, unwrap_or}
+use Rattle.std.proofs.lemmas.Int.{ints}
 use Rattle.format.specs.Numbers.{le_i32}
 use Rattle.format.specs.Said.{gives, wrong_size}
 use Rattle.multipart.specs.Answers.{said_part, part_of}
 use Rattle.multipart.specs.Parts.{is_count, count_of, differences, starts_at}
 use Rattle.multipart.specs.Walks.{end_of}
 
--- ---- what is said of a part, by whether an i32 holds the difference, and then a u32
+-- ---- what is said of a part, by the code's tests of the difference
 
--- a difference that leaves i32 is no count
-leaves_none : (d : ℤ) → (SFits w32 d → ⊥) → is_count d ≡ false
-leaves_none (pos n) h = go (ltb n (2 ^ 31)) refl
-  where
-    go : (b : Bool) → ltb n (2 ^ 31) ≡ b → ltb n (2 ^ 31) ≡ false
-    go true e = absurd (h (record { sfits = ltb-true n (2 ^ 31) e }))
-    go false e = e
-leaves_none (negsuc n) h = refl
+-- the difference as the code has it, which an i64 holds
+abbrev coded : ℤ → ℤ → ℤ
+coded x y = to_z w64 (of_z w64 (to_z w64 (of_z w64 x) -ℤ to_z w64 (of_z w64 y)))
 
--- else it is one where it is not negative
-by_sign : {E : Type 0} (d : ℤ) → SFits w32 d → (r : Result ℕ E) → OkIff r (FitsUnsignedBits 32 d) (nat_abs d) → said_part (result_ok r) ≡ cond (is_count d) (gives (nat_abs d)) (wrong_size 0)
-by_sign (pos n) f (Ok x) h = rw (lt-ltb n (2 ^ 31) f.sfits, h.1)
-by_sign (pos n) f (Err e) h = absurd (h (omega (arith, f.sfits)))
-by_sign (negsuc n) f (Ok x) h = absurd h.0
-by_sign (negsuc n) f (Err e) h = refl
+pub difference_is : (start end x y : ℤ) → SFits w32 start → SFits w32 end → x ≡ to_z w32 (of_z w32 end) → y ≡ to_z w32 (of_z w32 start) → coded x y ≡ end -ℤ start
+difference_is start end x y f g h k = omega (arith, ints)
 
-module _ (start end : ℤ) where
-  pub part_past : (SFits w32 (end -ℤ start) → ⊥) → wrong_size 0 ≡ part_of start end
+negative_none : (d : ℤ) → lt_z d (pos 0) ≡ true → is_count d ≡ false
+negative_none (pos n) e = absurd (omega (arith, ltb-true n 0 e))
+negative_none (negsuc n) e = refl
+
+large_none : (d : ℤ) → lt_z (pos 0x7fff_ffff) d ≡ true → is_count d ≡ false
+large_none (pos n) e = le-ltb n (2 ^ 31) (ltb-true 0x7fff_ffff n e)
+large_none (negsuc n) e = refl
+
+small_count : (d : ℤ) → lt_z d (pos 0) ≡ false → lt_z (pos 0x7fff_ffff) d ≡ false → is_count d ≡ true
+small_count (pos n) e h = let k : n < 2 ^ 31 = omega (arith, ltb-false 0x7fff_ffff n h) in lt-ltb n (2 ^ 31) k
+small_count (negsuc n) e h = absurd (let z : ◌≡◌ {A = Bool} true false = e in cc)
+
+module _ (start end d : ℤ) (is : d ≡ end -ℤ start) where
+  pub negative_part : lt_z d (pos 0) ≡ true → wrong_size 0 ≡ part_of start end
   unfolding part_of
-  part_past h = rw (leaves_none (end -ℤ start) h)
+  negative_part e = rw (← is, negative_none d e)
 
-  pub part_within : {E : Type 0} (d : ℤ) → d ≡ end -ℤ start → SFits w32 d → (r : Result ℕ E) → OkIff r (FitsUnsignedBits 32 d) (nat_abs d) → said_part (result_ok r) ≡ part_of start end
-  unfolding part_of
-  part_within d e f r h = by_sign d f r h ∙ ap (λ (z : ℤ). cond (is_count z) (gives (nat_abs z)) (wrong_size 0)) e
+  -- the tests against a number that is i32's largest
+  module _ (most : ℤ) (most_is : most ≡ pos 0x7fff_ffff) where
+    pub large_part : lt_z (to_z w64 (of_z w64 most)) d ≡ true → wrong_size 0 ≡ part_of start end
+    unfolding part_of
+    large_part e = rw (← is, large_none d (rw most_is at e))
+
+    pub counted_part : lt_z d (pos 0) ≡ false → lt_z (to_z w64 (of_z w64 most)) d ≡ false → gives (nat_abs d) ≡ part_of start end
+    unfolding part_of
+    counted_part e h = rw (← is, small_count d e (rw most_is at h))
 
 -- and back: what the answer tells of the difference
 

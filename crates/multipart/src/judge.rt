@@ -1,6 +1,7 @@
 // The first walk over a body: which field is cut or wrong, and how many points are read. It stores nothing.
 ghost use Rattle.std.specs.Prelude.{◌≡◌, ◌+◌, ◌*◌, ◌≤◌, ◌<◌, ◌^◌, pos, length};
 ghost use Rattle.format.specs.Numbers.{le_i32};
+ghost use Rattle.fields.specs.Checked.{FieldsEnd};
 ghost use Rattle.multipart.specs.Answers.{said_part, part_of};
 ghost use Rattle.multipart.specs.Body.{number_at};
 ghost use Rattle.multipart.specs.Parts.{starts_at};
@@ -8,7 +9,7 @@ ghost use Rattle.multipart.specs.Walks.{NotNegative, end_of, end_after, Counted,
 
 use crate::{Counts, CountsError, part_count};
 use fields::checked::fields_end;
-use format::shapes::Layout;
+use format::shapes::{Layout, Short};
 
 // A count, which stands at a place.
 pub(crate) fn not_negative(n: i32, at: usize) -> Result<u32, CountsError>
@@ -47,6 +48,8 @@ pub(crate) fn part_at(s: &[u8], start: usize, follow: usize, n: i32) -> Option<u
 }
 
 // The parts in turn, whose starts stand from 40 on: how many points they have. The pairs of a part stand where those of the part before it end.
+// (Not inlined: within the reading of a whole record the loop lacks registers, and loads the bytes' address twice for each part.)
+#[inline(never)]
 fn judge_parts(s: &[u8], said: Counts) -> Result<usize, CountsError>
     requires { (40 + 4 * said.parts ≤ length s.now) × (said.points < 2 ^ 31) }
     ensures { PartsWalk said.parts (pos said.points) s.now result }
@@ -88,13 +91,21 @@ fn judge_measure(s: &[u8], flag: bool, n: usize, at: usize) -> Result<usize, Cou
     }
 }
 
+// Where the starts of so many parts end, which stand from 40 on.
+fn starts_end(s: &[u8], parts: usize) -> Result<usize, Short>
+    requires { 40 ≤ length s.now }
+    ensures { FieldsEnd 4 parts 40 (length s.now) result }
+{
+    fields_end(s, 40, 4, parts)
+}
+
 // The pairs, behind the starts of parts, or those of a multipoint: how many points are read.
 fn judge_pairs(s: &[u8], parts: bool, said: Counts) -> Result<usize, CountsError>
     requires { Counted parts s.now said }
     ensures { PairsWalk parts s.now result }
 {
     if parts {
-        fields_end(s, 40, 4, said.parts as usize)?;
+        starts_end(s, said.parts as usize)?;
         judge_parts(s, said)
     } else {
         let points = said.points as usize;

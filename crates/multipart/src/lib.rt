@@ -86,8 +86,12 @@ impl From<CountsError> for BodyError {
 pub fn part_count(start: i32, end: i32) -> Option<u32>
     ensures { said_part result ≡ part_of start end }
 {
-    let count = end.checked_sub(start)?;
-    u32::try_from(count).ok()
+    // (not by `checked_sub` and `try_from`: a body of many parts asks here for each part, and these take several tests where one does)
+    let count = i64::from(end) - i64::from(start);
+    if count < 0 || i64::from(i32::MAX) < count {
+        return None;
+    }
+    Some(count as u32)
 }
 
 // How many parts and points the body says it has, which stand behind the box: a multipoint has only points.

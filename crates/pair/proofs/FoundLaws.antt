@@ -6,10 +6,11 @@ use Rattle.std.specs.Prelude.{Ok, Err}
 use Rattle.pair.specs.declared.Fault.{Fault}
 use Rattle.pair.specs.Verdicts.{found}
 
-pub found_none : (r k : ℕ) → Ok tt ≡ found r k → 0 ≡ r
-found_none zero k e = refl
-found_none (suc r) k e = cc
+module _ {A : Type 0} (a : A) where
+  pub found_none : (b : A) (r k : ℕ) → Ok b ≡ found a r k → (0 ≡ r) × (b ≡ a)
+  found_none b zero k e = (refl, cc)
+  found_none b (suc r) k e = cc
 
-pub found_fault : (r k : ℕ) (f : Fault) → Err f ≡ found r k → (r ≡ f.rule) × (f.record ≡ k) × (f.rule ≡ 0 → ⊥)
-found_fault zero k f e = cc
-found_fault (suc r) k f e = (cc, cc, λ z. let q : f.rule ≡ suc r = cc in omega arith)
+  pub found_fault : (r k : ℕ) (f : Fault) → Err f ≡ found a r k → (r ≡ f.rule) × (f.record ≡ k) × (f.rule ≡ 0 → ⊥)
+  found_fault zero k f e = cc
+  found_fault (suc r) k f e = (cc, cc, λ z. let q : f.rule ≡ suc r = cc in omega arith)

@@ -25,8 +25,8 @@ module _ (shp shx : List ℕ) where
   unfolding front_fault
   first_of r e n = faulty r (front-first shp shx r e n) n
 
-  pub by_front : (f : Fault) → Err f ≡ found (front_fault shp shx) 0 → fault f.rule f.record ≡ verdict shp shx
-  by_front f e = let q = found_fault _ _ f e in rw q.1 (first_of f.rule q.0 q.2)
+  pub by_front : (f : Fault) → Err f ≡ found (tt {0}) (front_fault shp shx) 0 → fault f.rule f.record ≡ verdict shp shx
+  by_front f e = let q = found_fault _ _ _ f e in rw q.1 (first_of f.rule q.0 q.2)
 
   module _ (front : 0 ≡ front_fault shp shx) where
     further : headers_fault shp shx ≡ first (drop 3 (headers_rules shp shx)) 0
@@ -47,8 +47,8 @@ module _ (shp shx : List ℕ) where
       unfolding back_fault
       last = further ∙ rw is
 
-      pub by_back : (f : Fault) → Err f ≡ found (back_fault shp shx) 0 → fault f.rule f.record ≡ verdict shp shx
-      by_back f e = let q = found_fault _ _ f e in rw q.1 (faulty f.rule (last ∙ q.0) q.2)
+      pub by_back : (f : Fault) → Err f ≡ found (tt {0}) (back_fault shp shx) 0 → fault f.rule f.record ≡ verdict shp shx
+      by_back f e = let q = found_fault _ _ _ f e in rw q.1 (faulty f.rule (last ∙ q.0) q.2)
 
       pub by_records : 0 ≡ back_fault shp shx → walk_from t (drop 100 shp) (drop 100 shx) 100 none_yet ≡ verdict shp shx
       by_records e = sym (verdict-walk shp shx t (last ∙ sym e) is)

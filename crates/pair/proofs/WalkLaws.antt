@@ -19,7 +19,7 @@ use Rattle.rules.proofs.Turns.{parts_done}
 use Rattle.rules.proofs.WalkLaws.{broken, met_all}
 use Rattle.pair.specs.declared.Fault.{Fault}
 use Rattle.pair.specs.declared.plans.Plan.{Plan}
-use Rattle.pair.specs.Plans.{has_parts, points_alone, taken_from}
+use Rattle.pair.specs.Plans.{field_words, has_parts, points_alone, taken_from}
 use Rattle.pair.specs.Verdicts.{head_fault, found}
 use Rattle.pair.proofs.FoundLaws.{found_fault}
 use Rattle.pair.proofs.PlanLaws.{Owned, front_of, front-of}
@@ -41,10 +41,10 @@ pub record Walked (plan : Plan) (s x : List ℕ) (at ix k ps ns : ℕ) (v : Said
 -- a record whose head breaks a rule
 pub no_head : (t : Taken) (l x : List ℕ) (at k ps ns : ℕ) (f : Fault)
     → 0 < length l
-    → Err f ≡ found (head_fault t.kind l x at (k + 1)) (k + 1)
+    → Err f ≡ found (field_words (big_at 4 l)) (head_fault t.kind l x at (k + 1)) (k + 1)
     → walk_from t l x at (counts k ps ns) ≡ fault f.rule f.record
 no_head t l x at k ps ns f h e =
-    let q = found_fault _ _ f e in
+    let q = found_fault _ _ _ f e in
     rw q.1 (broken t l x at (counts k ps ns) h f.rule q.2 (by_head t l x at (k + 1) f.rule q.0 q.2))
 
 -- ---- a record whose head has no fault, and the plan of its own kind

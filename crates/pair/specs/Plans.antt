@@ -15,9 +15,13 @@ pub record Word (v r : ℕ) : Type 0 where
   pub value : r ≡ v
   pub small : r < 2 ^ 32
 
--- r is the words whose bits, 32 of them, are v
+-- the words whose bits, 32 of them, are v
+abbrev pub field_words : ℕ → Words
+field_words v = record { 0 = to_z w32 v }
+
+-- r is these words
 pub record Field (v : ℕ) (r : Words) : Type 0 where
-  pub value : r ≡ record { 0 = to_z w32 v }
+  pub value : r ≡ field_words v
   pub small : v < 2 ^ 32
 
 -- words that are not negative

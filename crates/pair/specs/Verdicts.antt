@@ -20,10 +20,10 @@ pub record Checks (shp shx : List ℕ) (r : Result Totals Fault) : Type 0 where
   pub means : Judged shp shx (said_verdict r)
   pub follows : Says shp shx (said_verdict r)
 
--- no fault where the first broken rule is 0, and else that rule with the record that breaks it
-abbrev pub found : ℕ → ℕ → Result (Unit {0}) Fault
-found zero k = Ok tt
-found (suc rule) k = Err (record { rule = suc rule; «record» = k })
+-- what is there where the first broken rule is 0, and else that rule with the record that breaks it
+abbrev pub found : {A : Type 0} → A → ℕ → ℕ → Result A Fault
+found a zero k = Ok a
+found a (suc rule) k = Err (record { rule = suc rule; «record» = k })
 
 -- the first of P1 to P3, and the first of P5 to P8, that the headers break; 0 for none
 unfoldable pub front_fault : List ℕ → List ℕ → ℕ

@@ -3,7 +3,7 @@ ghost use Rattle.std.specs.Prelude.{◌≡◌, ◌||◌, ◌+◌, ◌*◌, ◌^�
 ghost use Rattle.format.specs.Lengths.{formula_words};
 ghost use Rattle.format.specs.Units.{same_int};
 ghost use Rattle.rules.specs.Rules.{P3, P7, P8, P9, P10, P11, P12, P13, length_right, big_at};
-ghost use Rattle.pair.specs.Plans.{plan_for, taken_from};
+ghost use Rattle.pair.specs.Plans.{Field, field_words, plan_for, taken_from};
 ghost use Rattle.pair.specs.Verdicts.{front_fault, back_fault, head_fault, found};
 
 use crate::Fault;
@@ -50,7 +50,7 @@ fn index_sized(shx: &[u8]) -> bool
 // The first of P1 to P3 that the headers break.
 #[tactic(auto, unfolding(crate::specs::Verdicts::front_fault))]
 pub(crate) fn check_front(shp: &[u8], shx: &[u8]) -> Result<(), Fault>
-    ensures { result ≡ found (front_fault shp.now shx.now) 0 }
+    ensures { result ≡ found tt (front_fault shp.now shx.now) 0 }
 {
     if shp.len() < 100 {
         return Err(Fault { rule: 1, record: 0 });
@@ -68,7 +68,7 @@ pub(crate) fn check_front(shp: &[u8], shx: &[u8]) -> Result<(), Fault>
 #[tactic(auto, unfolding(crate::specs::Verdicts::back_fault))]
 pub(crate) fn check_back(shp: &[u8], shx: &[u8]) -> Result<(), Fault>
     requires { (100 ≤ length shp.now) × (100 ≤ length shx.now) }
-    ensures { result ≡ found (back_fault shp.now shx.now) 0 }
+    ensures { result ≡ found tt (back_fault shp.now shx.now) 0 }
 {
     if !length_right(shp) {
         return Err(Fault { rule: 5, record: 0 });
@@ -108,7 +108,7 @@ fn indexed(rest: &[u8], index: &[u8], at: usize) -> bool
     requires { 8 ≤ length rest.now }
     ensures { result ≡ P11 rest.now index.now at }
 {
-    index.len() >= 8 && names_bytes(index, 0, at) && big(index, 4) == big(rest, 4)
+    index.len() >= 8 && names_bytes(index, 0, at) && words_at(index, 4).0 == words_at(rest, 4).0
 }
 
 // P12: the kind is the header's, or Null.
@@ -131,11 +131,10 @@ fn measures(lengths: Lengths, p: usize, n: usize, words: Words) -> bool
 }
 
 // P13: the counts are not negative, and the length is one that they give. Too few words for the counts fit no formula.
-pub(crate) fn sized(plan: Plan, rest: &[u8]) -> bool
-    requires { (plan ≡ plan_for (taken_from plan)) × (8 + 2 * big_at 4 rest.now ≤ length rest.now) × (big_at 4 rest.now < 2 ^ 31) }
+pub(crate) fn sized(plan: Plan, rest: &[u8], words: Words) -> bool
+    requires { (plan ≡ plan_for (taken_from plan)) × (8 + 2 * big_at 4 rest.now ≤ length rest.now) × (big_at 4 rest.now < 2 ^ 31) × Field (big_at 4 rest.now) words }
     ensures { result ≡ P13 (taken_from plan) rest.now }
 {
-    let words = words_at(rest, 4);
     let lengths = plan.lengths;
     if !plan.several {
         return measures(lengths, 0, plan.points, words);
@@ -160,7 +159,7 @@ pub(crate) fn sized(plan: Plan, rest: &[u8]) -> bool
     measures(lengths, count, n, words)
 }
 
-// The first of P9 to P12 that a record breaks.
+// The first of P9 to P12 that a record breaks; where it breaks none, the words of its content, which are read here once for all that follows.
 #[tactic(auto, unfolding(crate::specs::Verdicts::head_fault))]
 pub(crate) fn check_head(
     plan: Plan,
@@ -168,8 +167,8 @@ pub(crate) fn check_head(
     index: &[u8],
     at: usize,
     k: usize,
-) -> Result<(), Fault>
-    ensures { result ≡ found (head_fault plan.kind rest.now index.now at k) k }
+) -> Result<Words, Fault>
+    ensures { result ≡ found (field_words (big_at 4 rest.now)) (head_fault plan.kind rest.now index.now at k) k }
 {
     if !numbered(rest, k) {
         return Err(Fault { rule: 9, record: k });
@@ -192,5 +191,5 @@ pub(crate) fn check_head(
             record: k,
         });
     }
-    Ok(())
+    Ok(words_at(rest, 4))
 }

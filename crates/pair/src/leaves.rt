@@ -56,13 +56,12 @@ pub(crate) fn in_bytes(words: Words) -> usize
     Bytes::from(words).0 as usize
 }
 
-// The field at a place is a length in words, of so many bytes.
+// The field at a place is a length in words, of so many bytes. (By its bits: those of a negative one are 2^31 or more, and twice them 2^32 or more.)
 pub(crate) fn names_bytes(s: &[u8], at: usize, bytes: usize) -> bool
     requires { at + 4 ≤ length s.now }
     ensures { result ≡ (held (big_at at s.now) && eqb (2 * big_at at s.now) bytes) }
 {
-    let words = words_at(s, at);
-    words.0 >= 0 && in_bytes(words) == bytes
+    big(s, at) == bytes / 2 && bytes % 2 == 0 && bytes < 0x1_0000_0000
 }
 
 // The double at a place is no NaN and no infinity: the bits of its exponent are not all ones.

@@ -51,28 +51,29 @@ fn walk(plan: Plan, null: Plan, shp: &[u8], shx: &[u8]) -> Result<Totals, Fault>
         let rest = &shp[at..];
         let index = &shx[ix..];
         // P9 to P12
-        if let Err(fault) = heads::check_head(plan, rest, index, at, record) {
-            break 'walk Err(fault);
-        }
+        let words = match heads::check_head(plan, rest, index, at, record) {
+            Ok(words) => words,
+            Err(fault) => break 'walk Err(fault),
+        };
         // P13, and all that follows, by the record's own kind
         let own = plan.or_null(null, rest);
-        if !heads::sized(own, rest) {
+        if !heads::sized(own, rest, words) {
             break 'walk Err(Fault { rule: 13, record });
         }
-        let words = leaves::words_at(rest, 4);
         let p = own.parts_of(rest);
         let n = own.points_of(rest);
         // P14: there is a part, the first one starts at point 0, and each has points enough; a multipoint has a point
         if !own.begins(rest, p, n) {
             break 'walk Err(Fault { rule: 14, record });
         }
-        let mut begin = 0;
+        // (where a part has to end at least is summed up behind its test: so built, the loop costs a record without parts next to nothing)
+        let mut least_end = own.least;
         for part in 0..p {
             let end = leaves::end_of(rest, part, p, n);
-            if end < begin + own.least {
+            if end < least_end {
                 break 'walk Err(Fault { rule: 14, record });
             }
-            begin = end;
+            least_end = end + own.least;
         }
         // P15: the rings among them are closed
         let front = own.front + 2 * p;

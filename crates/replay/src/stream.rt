@@ -101,9 +101,8 @@ pub fn run(
     let mut tally = Tally::default();
     // the input ends it: a loop has to have a bound
     for _ in 0..u64::MAX {
-        let Some(length) = next_length(input) else {
-            return tally.broken();
-        };
+        // where the input ends in a length the stream is broken, and what may still come behind that end (as on a terminal) is run as its last block
+        let length = next_length(input).unwrap_or(usize::MAX);
         let room = length.min(buffer.len());
         let came = read_full(input, &mut buffer[..room]);
         if came < length {

@@ -1,17 +1,17 @@
--- `multipart::part_count`: what an i32 does not hold is no count, and neither is what a u32 does not.
-use Rattle.std.proofs.Common.{w32}
-use Rattle.std.proofs.lemmas.Int.{to_z-of_z}
-use Rattle.multipart.proofs.PartLaws.{part_past, part_within}
+-- `multipart::part_count`: the difference in an i64 is exact, and its two tests are those of a count.
+use Rattle.multipart.proofs.PartLaws.{difference_is, negative_part, large_part, counted_part}
+use Rattle.multipart.proofs.part_count.Goals.{then-count-lt0-via-then-count-lt0, then-count-lt0-via-else-count-lt0+then-from-count}
 use Rattle.multipart.proofs.part_count.Goals as goal
 
-pub returns-in_err-count : goal.returns-in_err-count
-returns-in_err-count c =
-    let past = rw (to_z-of_z w32 c.args.end c.ranges.end, to_z-of_z w32 c.args.start c.ranges.start) at c.in_err-count.ensures in
-    rw c.from_residual.ensures (part_past _ _ past)
+pub returns-then-count-lt0 : goal.returns-then-count-lt0
+returns-then-count-lt0 c =
+    let is = difference_is _ _ _ _ c.ranges.start c.ranges.end c.from.ensures c.from-2.ensures in
+    elim c.then-count-lt0.branch [
+      | then-count-lt0-via-then-count-lt0 w ↦ negative_part _ _ _ is w.if-count-lt0.true
+      | then-count-lt0-via-else-count-lt0+then-from-count w ↦ large_part _ _ _ is _ w.from-else-count-lt0.ensures w.if-from-count.true
+    ]
 
 pub returns : goal.returns
 returns c =
-    let held = rw (to_z-of_z w32 c.args.end c.ranges.end, to_z-of_z w32 c.args.start c.ranges.start) at c.in_ok-count.ensures in
-    let fits = rw (← held.1) at held.0 in
-    let tried = rw (to_z-of_z w32 c.in_ok-count.count fits) at c.try_from.ensures in
-    rw c.ok.ensures.value (part_within _ _ _ held.1 fits _ tried)
+    let is = difference_is _ _ _ _ c.ranges.start c.ranges.end c.from.ensures c.from-2.ensures in
+    counted_part _ _ _ is _ c.from-else-count-lt0.ensures c.if-count-lt0.false c.if-from-count.false

@@ -23,7 +23,7 @@ use Rattle.pair.proofs.judge.Goals as goal
 
 -- P1 to P3 are met
 fine : (c : In_ok-check_front) → 0 ≡ front_fault c.args.shp.now c.args.shx.now
-fine c = found_none _ _ c.in_ok-check_front.ensures
+fine c = (found_none _ _ _ _ c.in_ok-check_front.ensures).0
 
 -- the kind that is looked up is the one that the header names, and the plan is that of the kind that the rules take
 named : (s : List ℕ) (z : ℤ) → z ≡ le_i32 32 s → taken_of (kind_at z) ≡ taken_in s
@@ -77,4 +77,4 @@ walk-requires c =
 pub returns : goal.returns
 returns c =
     let v = goal.at.returns c in
-    c.walk.ensures ∙ by_records _ _ (fine v.In_ok-check_front) (taken_from c.in_ok-plan.plan) (known v.In_ok-plan).0 (found_none _ _ c.in_ok-check_back.ensures)
+    c.walk.ensures ∙ by_records _ _ (fine v.In_ok-check_front) (taken_from c.in_ok-plan.plan) (known v.In_ok-plan).0 (found_none _ _ _ _ c.in_ok-check_back.ensures).0

@@ -13,13 +13,14 @@ use Rattle.format.specs.Said.{Said}
 use Rattle.rules.specs.Rules.{Counts, big_at, finites, parts_long, rings_closed, P13, none_yet, walk_from}
 use Rattle.rules.proofs.WalkLaws.{left_over, all_behind}
 use Rattle.pair.specs.declared.plans.Plan.{Plan}
-use Rattle.pair.specs.Plans.{Whole, taken_from}
+use Rattle.pair.specs.Plans.{Field, field_words, Whole, taken_from}
+use Rattle.pair.specs.Verdicts.{head_fault}
 use Rattle.pair.proofs.FoundLaws.{found_none}
 use Rattle.pair.proofs.PlanLaws.{front_of, owned}
 use Rattle.pair.proofs.TurnLaws.{finites_go, finites_no, finites_done, parts_go, parts_no, parts_done, rings_go, rings_no, rings_done, ring, others}
 use Rattle.pair.proofs.UnitLaws.{field-whole, field_count}
 use Rattle.pair.proofs.WalkLaws.{counts, Open, Within, within, counted, front_flags, parted-several, Here, Fit, fit, parts-room, no_head, no13, long_rings, few_rings, no14_first, no14, no15, no16_box, no16, next}
-use Rattle.pair.proofs.walk.Goals.{In_default, After-or_null-own, Else-not-sized, After-words_at-words, After-points_of-n, Else-not-begins, After-loop-part, After-rings_of-rings, After-loop-ring, After-loop-corner}
+use Rattle.pair.proofs.walk.Goals.{In-Ok, After-or_null-own, Else-not-sized, After-points_of-n, Else-not-begins, After-loop-part, After-rings_of-rings, After-loop-ring, After-loop-corner}
 use Rattle.pair.proofs.walk.Goals as goal
 
 -- ---- the bytes from the record on and the index from its entry on, as the code has them
@@ -35,20 +36,27 @@ whole plan shp shx = walk_from (taken_from plan) (drop 100 shp) (drop 100 shx) 1
 
 -- ---- a record whose head has no fault, its own plan, and its counts
 
-headed : (c : In_default) → Within (behind c.walk.at c.args.shp.now) (behind c.walk.ix c.args.shx.now)
-headed c =
-    within c.args.plan.kind (behind c.walk.at c.args.shp.now) (behind c.walk.ix c.args.shx.now) c.walk.at (c.walk.totals.records + 1)
-    (found_none _ _ (sym c.in_default.is ∙ c.check_head.ensures))
+told : (c : In-Ok)
+    → (0 ≡ head_fault c.args.plan.kind (behind c.walk.at c.args.shp.now) (behind c.walk.ix c.args.shx.now) c.walk.at (c.walk.totals.records + 1))
+    × (c.in-Ok.words ≡ field_words (big_at 4 (behind c.walk.at c.args.shp.now)))
+told c = found_none _ _ _ _ (sym c.in-Ok.is ∙ c.check_head.ensures)
+
+headed : (c : In-Ok) → Within (behind c.walk.at c.args.shp.now) (behind c.walk.ix c.args.shx.now)
+headed c = within c.args.plan.kind (behind c.walk.at c.args.shp.now) (behind c.walk.ix c.args.shx.now) c.walk.at (c.walk.totals.records + 1) (told c).0
+
+-- its words, as the code has them
+worded : (c : In-Ok) → Field (big_at 4 (behind c.walk.at c.args.shp.now)) c.in-Ok.words
+worded c = record { value = (told c).1; small = omega (arith, (headed c).held) }
 
 opened : (c : After-or_null-own) → Open c.args.plan c.or_null-own.result (behind c.walk.at c.args.shp.now) (behind c.walk.ix c.args.shx.now) c.walk.at c.walk.totals.records
 opened c =
     record {
       inside = omega (arith, longer c.walk.at c.args.shp.now, c.if-at-shp.false);
-      hd = found_none _ _ (sym c.in_default.is ∙ c.check_head.ensures);
+      hd = (told (goal.at.sized-requires c).In-Ok).0;
       owned = owned c.args.plan c.args.null c.or_null-own.result c.requires.0 c.requires.1 c.requires.2 (behind c.walk.at c.args.shp.now) c.or_null-own.ensures;
     }
 
-walked : (c : In_default)
+walked : (c : In-Ok)
     → walk_from (taken_from c.args.plan) (behind c.walk.at c.args.shp.now) (behind c.walk.ix c.args.shx.now) c.walk.at (counts c.walk.totals.records c.walk.totals.parts c.walk.totals.points)
     ≡ whole c.args.plan c.args.shp.now c.args.shx.now
 walked c = rw (take_rest c.args.shp.now c.walk.at, take_rest c.args.shx.now c.walk.ix) c.walk.invariant.rest
@@ -64,17 +72,17 @@ some-front false m e = rw e (lit≤ tt)
 
 severaled : (c : Else-not-sized) → c.or_null-own.result.several ≡ true → 48 ≤ length (behind c.walk.at c.args.shp.now)
 severaled c e =
-    let v = goal.at.words_at-words-requires c in
+    let v = goal.at.parts_of-p-requires c in
     let o = opened v.After-or_null-own in
     let own = c.or_null-own.result in
-    omega (arith, (headed v.In_default).within, counted o (fits c) e, front_flags o, some-front own.parts own.several e)
+    omega (arith, (headed v.In-Ok).within, counted o (fits c) e, front_flags o, some-front own.parts own.several e)
 
 parted : (c : Else-not-sized) → c.or_null-own.result.parts ≡ true → 52 ≤ length (behind c.walk.at c.args.shp.now)
 parted c e =
-    let v = goal.at.words_at-words-requires c in
+    let v = goal.at.parts_of-p-requires c in
     let o = opened v.After-or_null-own in
     let f : c.or_null-own.result.front ≡ 22 = front_flags o ∙ rw e in
-    omega (arith, (headed v.In_default).within, counted o (fits c) (parted-several o e), f)
+    omega (arith, (headed v.In-Ok).within, counted o (fits c) (parted-several o e), f)
 
 here : (c : After-points_of-n)
     → Here c.args.plan c.or_null-own.result (behind c.walk.at c.args.shp.now) (behind c.walk.ix c.args.shx.now) c.walk.at c.walk.totals.records c.walk.totals.parts c.walk.totals.points c.parts_of-p.result c.points_of-n.result (whole c.args.plan c.args.shp.now c.args.shx.now)
@@ -85,18 +93,18 @@ here c =
       sized = fits v.Else-not-sized;
       pe = c.parts_of-p.ensures.value;
       ne = c.points_of-n.ensures;
-      rest = walked v.In_default;
+      rest = walked v.In-Ok;
     }
 
 fitted : (c : After-points_of-n) → Fit c.or_null-own.result (behind c.walk.at c.args.shp.now) (behind c.walk.ix c.args.shx.now) (big_at 4 (behind c.walk.at c.args.shp.now)) c.parts_of-p.result c.points_of-n.result
 fitted c = fit (here c)
 
--- its words, as the code has them
-words_are : (c : After-points_of-n) → nat_abs c.words_at-words.result.0 ≡ big_at 4 (behind c.walk.at c.args.shp.now)
-words_are c = field_count _ _ c.words_at-words.ensures (fitted c).held
+-- the number of its words
+words_are : (c : After-points_of-n) → nat_abs c.in-Ok.words.0 ≡ big_at 4 (behind c.walk.at c.args.shp.now)
+words_are c = field_count _ _ (worded (goal.at.begins-requires c).In-Ok) (fitted c).held
 
-words-whole : (c : After-points_of-n) → Whole c.words_at-words.result
-words-whole c = field-whole _ _ c.words_at-words.ensures (fitted c).held
+words-whole : (c : After-points_of-n) → Whole c.in-Ok.words
+words-whole c = field-whole _ _ (worded (goal.at.begins-requires c).In-Ok) (fitted c).held
 
 -- ---- what holds behind each of its loops
 
@@ -120,10 +128,7 @@ pub or_null-own-requires : goal.or_null-own-requires
 or_null-own-requires c = omega (arith, headed c)
 
 pub sized-requires : goal.sized-requires
-sized-requires c = let h = headed (goal.at.sized-requires c).In_default in ((opened c).owned.is, h.within, h.held)
-
-pub words_at-words-requires : goal.words_at-words-requires
-words_at-words-requires c = omega (arith, headed (goal.at.words_at-words-requires c).In_default)
+sized-requires c = let v = (goal.at.sized-requires c).In-Ok in let h = headed v in ((opened c).owned.is, h.within, h.held, worded v)
 
 pub parts_of-p-requires : goal.parts_of-p-requires
 parts_of-p-requires c = parted (goal.at.parts_of-p-requires c).Else-not-sized
@@ -141,14 +146,15 @@ end_of-end-requires c =
     let r = f.in_parts (omega arith) in
     (t, omega (arith, r.1, f.within), omega (arith, f.few_points, f.held))
 
-pub overflow_add-begin : goal.overflow_add-begin
-overflow_add-begin c = omega (arith, c.loop-part.invariant.0, (fitted (goal.at.overflow_add-begin c).After-points_of-n).least_few)
+pub overflow_add-least_end : goal.overflow_add-least_end
+overflow_add-least_end c = omega (arith, c.end_of-end.ensures.small, (fitted (goal.at.overflow_add-least_end c).After-points_of-n).least_few)
 
 pub loop-part-preserved : goal.loop-part-preserved
 loop-part-preserved c =
     let e = c.end_of-end in
     let l = c.loop-part in
-    (e.ensures.small, parts_go _ _ _ _ _ _ c.loop-part-test.true e.ensures.value _ c.if-end-begin.false ∙ l.invariant.1)
+    let s : e.result + c.or_null-own.result.least - c.or_null-own.result.least ≡ e.result = omega arith in
+    (omega arith, rw s (parts_go _ _ _ _ _ _ c.loop-part-test.true e.ensures.value _ (omega (arith, l.invariant.0, c.if-end-least_end.false)) ∙ l.invariant.1))
 
 pub overflow_add-front : goal.overflow_add-front
 overflow_add-front c = let f = fitted (goal.at.overflow_add-front c).After-points_of-n in omega (arith, f.in_front, f.held)
@@ -258,15 +264,15 @@ pub returns-then-not-sized : goal.returns-then-not-sized
 returns-then-not-sized c =
     let v = goal.at.returns-then-not-sized c in
     let t = c.walk.totals in
-    no13 (opened v.After-or_null-own) t.parts t.points (walked v.In_default) (sym c.sized.ensures ∙ c.if-not-sized.true)
+    no13 (opened v.After-or_null-own) t.parts t.points (walked v.In-Ok) (sym c.sized.ensures ∙ c.if-not-sized.true)
 
 pub returns-then-not-begins : goal.returns-then-not-begins
 returns-then-not-begins c = no14_first (here (goal.at.returns-then-not-begins c).After-points_of-n) (sym c.begins.ensures ∙ c.if-not-begins.true)
 
-pub returns-then-end-begin : goal.returns-then-end-begin
-returns-then-end-begin c =
-    no14 (here (goal.at.returns-then-end-begin c).After-points_of-n) (sym c.begins.ensures ∙ c.if-not-begins.false)
-    (sym c.loop-part.invariant.1 ∙ parts_no _ _ _ _ _ _ c.loop-part-test.true c.end_of-end.ensures.value _ c.if-end-begin.true)
+pub returns-then-end-least_end : goal.returns-then-end-least_end
+returns-then-end-least_end c =
+    no14 (here (goal.at.returns-then-end-least_end c).After-points_of-n) (sym c.begins.ensures ∙ c.if-not-begins.false)
+    (sym c.loop-part.invariant.1 ∙ parts_no _ _ _ _ _ _ c.loop-part-test.true c.end_of-end.ensures.value _ (omega (arith, c.loop-part.invariant.0, c.if-end-least_end.true)))
 
 pub returns-then-not-closed : goal.returns-then-not-closed
 returns-then-not-closed c =

@@ -1,5 +1,5 @@
 -- At each record, and in each of its loops, what is left to do decides as the whole does.
-use Rattle.std.proofs.Common.{length, ◌-◌, ◌≡◌, true, drop, ◌+◌, ◌*◌, ◌^◌, ◌<◌}
+use Rattle.std.proofs.Common.{length, ◌-◌, ◌≡◌, true, drop, ◌+◌, ◌*◌, ◌≤◌}
 use Rattle.rules.specs.Rules.{parts_long, rings_closed, finites, none_yet, walk_from}
 use Rattle.pair.specs.Plans.{taken_from}
 use Rattle.pair.proofs.WalkLaws.{Walked}
@@ -7,7 +7,7 @@ use Rattle.pair.proofs.walk.Given as goal
 
 abbrev pub invariant-loop-part : goal.invariant-loop-part
 invariant-loop-part l =
-    (l.begin < 2 ^ 32) × (parts_long l.own.least (l.p - l.part) (56 + 4 * l.part) l.begin l.n l.rest ≡ parts_long l.own.least l.p 56 0 l.n l.rest)
+    (l.own.least ≤ l.least_end) × (parts_long l.own.least (l.p - l.part) (56 + 4 * l.part) (l.least_end - l.own.least) l.n l.rest ≡ parts_long l.own.least l.p 56 0 l.n l.rest)
 
 abbrev pub invariant-loop-ring : goal.invariant-loop-ring
 invariant-loop-ring l =

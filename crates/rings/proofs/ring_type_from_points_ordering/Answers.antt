@@ -1,5 +1,5 @@
 -- `rings::ring_type_from_points_ordering` meets its contract: after the loop no neighbours are left to add.
-use Rattle.std.proofs.Common.{◌≡◌, sym, ◌∙◌, true, false}
+use Rattle.std.proofs.Common.{◌≡◌, sym, ◌∙◌, true, false, inl, inr}
 use native.Mathlib.Nat.{sub-zero}
 use Rattle.format.proofs.NumberLaws.{zero_bits}
 use Rattle.rings.specs.Points.{number, products, plus}
@@ -9,7 +9,10 @@ use Rattle.rings.proofs.ring_type_from_points_ordering.Goals as goal
 use Rattle.rings.proofs.ring_type_from_points_ordering.Goals.{After-loop-i}
 
 pub returns-then-xs-n : goal.returns-then-xs-n
-returns-then-xs-n c = turning_past _ _ _ c.then-xs-n.either
+returns-then-xs-n c = turning_past _ _ _ (inl c.if-xs-n.true)
+
+pub returns-then-ys-n : goal.returns-then-ys-n
+returns-then-ys-n c = turning_past _ _ _ (inr (c.if-xs-n.false, c.if-ys-n.true))
 
 pub loop-i-init : goal.loop-i-init
 loop-i-init c = rw (sub-zero, zero_bits)

@@ -31,13 +31,13 @@ pub returns-then-not-plan : goal.returns-then-not-plan
 returns-then-not-plan c =
     let t = taken_from c.args.plan in
     c.measures.ensures
-    ∙ (ap₂ (λ (p : Plan) (z : ℤ). by_plan p 0 p.points z) c.requires.0 (field-words _ _ c.words_at-words.ensures c.requires.2)
+    ∙ (ap₂ (λ (p : Plan) (z : ℤ). by_plan p 0 p.points z) c.requires.0 (field-words _ _ c.requires.3 c.requires.2)
     ∙ plain13 t c.args.rest.now (sym (ap (λ (p : Plan). p.several) c.requires.0) ∙ not-true _ c.if-not-plan.true))
 
 pub returns-then-words-lt20 : goal.returns-then-words-lt20
 returns-then-words-lt20 c =
     let t = taken_from c.args.plan in
-    let e = field-words _ _ c.words_at-words.ensures c.requires.2 in
+    let e = field-words _ _ c.requires.3 c.requires.2 in
     let few : big_at 4 c.args.rest.now < 20 = omega (arith, ints) in
     least13 (has_parts t.form) t c.args.rest.now (form_is _ (sym (ap (λ (p : Plan). p.several) c.requires.0) ∙ not-false _ c.if-not-plan.false)) few
 
@@ -46,12 +46,12 @@ returns-then-not-plan-2 c =
     let t = taken_from c.args.plan in
     let n = c.little-count in
     c.measures-then-not-plan-2.ensures
-    ∙ (ap₂ (λ (x : Plan) (z : ℤ). by_plan x 0 n.result z) c.requires.0 (field-words _ _ c.words_at-words.ensures c.requires.2)
+    ∙ (ap₂ (λ (x : Plan) (z : ℤ). by_plan x 0 n.result z) c.requires.0 (field-words _ _ c.requires.3 c.requires.2)
     ∙ last13 false t c.args.rest.now (formed c.args.plan false c.requires.0 (not-false _ c.if-not-plan.false) (not-true _ c.if-not-plan-2.true)) 0 n.result _ refl (sym n.ensures.value) refl (lit< tt) c.if-count-ge2147483648.false)
 
 pub returns-then-words-lt22 : goal.returns-then-words-lt22
 returns-then-words-lt22 c =
-    let e = field-words _ _ c.words_at-words.ensures c.requires.2 in
+    let e = field-words _ _ c.requires.3 c.requires.2 in
     let few : big_at 4 c.args.rest.now < 22 = omega (arith, ints) in
     few13 true (taken_from c.args.plan) c.args.rest.now (formed c.args.plan true c.requires.0 (not-false _ c.if-not-plan.false) (not-false _ c.if-not-plan-2.false)) 22
     (omega (arith, front-parts (little_at 44 c.args.rest.now))) few
@@ -62,5 +62,5 @@ returns c =
     let p = c.little-count in
     let n = c.little-n in
     c.measures-2.ensures
-    ∙ (ap₂ (λ (x : Plan) (z : ℤ). by_plan x p.result n.result z) c.requires.0 (field-words _ _ c.words_at-words.ensures c.requires.2)
+    ∙ (ap₂ (λ (x : Plan) (z : ℤ). by_plan x p.result n.result z) c.requires.0 (field-words _ _ c.requires.3 c.requires.2)
     ∙ last13 true t c.args.rest.now (formed c.args.plan true c.requires.0 (not-false _ c.if-not-plan.false) (not-false _ c.if-not-plan-2.false)) p.result n.result _ (sym p.ensures.value) (sym n.ensures.value) refl c.if-count-ge2147483648.false c.if-n-ge2147483648.false)
