@@ -36,7 +36,7 @@ impl From<CloseError> for Refusal {
 }
 
 impl Told {
-    // (Inlined always: a quarter of the time of `mbenaruul_is_part_closed` would else go into a copy of the zeros.)
+    // (Inlined always: the compiler would else copy the zeros over the stack.)
     #[inline(always)]
     fn given(value: usize) -> Told
         ensures { result ≡ told not_refused value }

@@ -56,7 +56,7 @@ pub(crate) fn in_bytes(words: Words) -> usize
     Bytes::from(words).0 as usize
 }
 
-// The field at a place is a length in words, of so many bytes. (By its bits: those of a negative one are 2^31 or more, and twice them 2^32 or more.)
+// The field at a place is a length in words, of so many bytes. (By its bits, half of the bytes: those of a negative one are 2^31 or more, the half of 2^32 or more.)
 pub(crate) fn names_bytes(s: &[u8], at: usize, bytes: usize) -> bool
     requires { at + 4 ≤ length s.now }
     ensures { result ≡ (held (big_at at s.now) && eqb (2 * big_at at s.now) bytes) }

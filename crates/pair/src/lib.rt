@@ -66,7 +66,7 @@ fn walk(plan: Plan, null: Plan, shp: &[u8], shx: &[u8]) -> Result<Totals, Fault>
         if !own.begins(rest, p, n) {
             break 'walk Err(Fault { rule: 14, record });
         }
-        // (where a part has to end at least is summed up behind its test: so built, the loop costs a record without parts next to nothing)
+        // (where the next part has to end at least is summed up behind the test: so the loop costs a record without parts next to nothing)
         let mut least_end = own.least;
         for part in 0..p {
             let end = leaves::end_of(rest, part, p, n);

@@ -42,7 +42,7 @@ pub fn is_part_closed(xs: &[f64], ys: &[f64], n: usize) -> Result<bool, TooFew>
     if ys.len() < n {
         return Err(TooFew);
     }
-    // (Answered in branches: a call that makes the answer of the test's value takes a sixth longer.)
+    // (answered in branches, as its callers go on in branches)
     if n != 0 && fields::same(xs[0], xs[n - 1]) && fields::same(ys[0], ys[n - 1]) {
         return Ok(true);
     }
